@@ -1,0 +1,13 @@
+//! Scripts: what one client does to a book, as lines of text.
+//!
+//! What the layers above may rely on: each value of `Script` keeps the rules of `IsPlayable`, and
+//! contracts see it as the record of its names and lines.
+#![tactic(auto)]
+
+mod book;
+mod content;
+mod line;
+
+pub use book::Script;
+pub use content::Content;
+pub use line::ScriptLine;
