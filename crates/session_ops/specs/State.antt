@@ -68,17 +68,26 @@ least_among s cell (n ∷ ns) = least_floor cell s.known n ns
 abbrev pub least : State → ℕ → ℕ
 least s cell = least_among s cell s.joined
 
-abbrev pub split_refusal : Option ℕ → Option Refusal
-split_refusal None = None
-split_refusal (Some at) = Some (SplitsPair at)
+-- what keeps a delta from a text: it reaches past the text's units, or cuts inside a character
+pub data Misfit : Type 0 where
+  Past : ℕ → Misfit
+  Splits : ℕ → Misfit
+
+abbrev pub split_misfit : Option ℕ → Option Misfit
+split_misfit None = None
+split_misfit (Some at) = Some (Splits at)
 
 -- why a delta doesn't fit a text: nothing where it fits
-abbrev pub misfit : List Step → List ℕ → Option Refusal
-misfit d t = if nat_le (reach_of d) (unit_count t) then split_refusal (broken_cut d t) else Some (PastEnd (unit_count t))
+abbrev pub misfit : List Step → List ℕ → Option Misfit
+misfit d t = if nat_le (reach_of d) (unit_count t) then split_misfit (broken_cut d t) else Some (Past (unit_count t))
 
-abbrev pub judged_by : ℕ → List Step → Option Refusal → Reply
+abbrev pub refusal_of : Misfit → Refusal
+refusal_of (Past len) = PastEnd len
+refusal_of (Splits at) = SplitsPair at
+
+abbrev pub judged_by : ℕ → List Step → Option Misfit → Reply
 judged_by rev x None = Applied (rev + 1) x
-judged_by rev x (Some why) = Refused why
+judged_by rev x (Some why) = Refused (refusal_of why)
 
 -- the answer to a delta of a joined client, for the live cell if there is one
 abbrev pub delta_reply : State → ℕ → ℕ → List Step → Option Cell → Reply
