@@ -9,6 +9,6 @@ mod book;
 mod reply;
 mod words;
 
-pub use book::rev_in;
+pub use book::{book_text, push_book, rev_in};
 pub use reply::{push_refusal, push_reply, reply_text};
 pub use words::{push_number, push_text};
