@@ -11,29 +11,9 @@ use Rattle.notebook.specs.declared.parts.Section.{Section}
 use Rattle.notebook.specs.declared.parts.Parts.{Parts}
 use Rattle.notebook.specs.Book.{cells_of, section_cells}
 use Rattle.notebook.specs.Rules.{cell_number, AreDistinct, IsNotebook}
+use Rattle.transcript.proofs.Agreeing.{Agree, agree_itself, agree_left, agree_right, cell_lines-agree, section_lines-agree}
 use Rattle.transcript.specs.Left.{LeavesOthers}
 use Rattle.transcript.specs.Texts.{rev_in, cell_line, cell_lines, section_line, section_lines, setup_lines, book_lines, text_of, ended_line, as_text}
-
--- both lists give each cell the same revision
-abbrev pub Agree : List (ℕ × ℕ) → List (ℕ × ℕ) → List Cell → Type 0
-Agree left revs cells = AllByRecursion (λ c. rev_in left c.id ≡ rev_in revs c.id) cells
-
-pub agree_itself : (revs : List (ℕ × ℕ)) (cells : List Cell) → Agree revs revs cells
-agree_itself revs [] = tt
-agree_itself revs (c ∷ cs) = (refl, agree_itself revs cs)
-
-agree_left : (left revs : List (ℕ × ℕ)) (xs ys : List Cell) → Agree left revs (xs ++ ys) → Agree left revs xs
-agree_left left revs [] ys h = tt
-agree_left left revs (x ∷ xs) ys h = (h.0, agree_left left revs xs ys h.1)
-
-agree_right : (left revs : List (ℕ × ℕ)) (xs ys : List Cell) → Agree left revs (xs ++ ys) → Agree left revs ys
-agree_right left revs [] ys h = h
-agree_right left revs (x ∷ xs) ys h = agree_right left revs xs ys h.1
-
--- lists that agree print the same
-cell_lines-agree : (left revs : List (ℕ × ℕ)) (cells : List Cell) → Agree left revs cells → cell_lines (rev_in left) cells ≡ cell_lines (rev_in revs) cells
-cell_lines-agree left revs [] h = refl
-cell_lines-agree left revs (c ∷ cs) h = ap (λ r. cell_line (λ _. r) c ∷ cell_lines (rev_in left) cs) h.0 ∙ ap (λ ls. cell_line (rev_in revs) c ∷ ls) (cell_lines-agree left revs cs h.1)
 
 contains_head : (x : ℕ) (xs : List ℕ) → Contains (x ∷ xs) x
 contains_head x xs = Contains-append_left (x ∷ []) xs x (Contains-push [] x)
@@ -63,7 +43,7 @@ distinct_right [] ys h = h
 distinct_right (x ∷ xs) ys h = distinct_right xs ys h.1
 
 -- what is left after some cells still agrees on those that are apart from them
-agree_still : (old left revs : List (ℕ × ℕ)) (xs ys : List Cell) → LeavesOthers xs old left → ((z : ℕ) → Contains (map cell_number ys) z → ¬ Contains (map cell_number xs) z) → Agree old revs ys → Agree left revs ys
+agree_still : (old left revs : List (ℕ × ℕ)) (xs ys : List Cell) → LeavesOthers xs old left → ((z : ℕ) → Contains (map cell_number ys) z → ¬ Contains (map cell_number xs) z) → Agree (rev_in old) (rev_in revs) ys → Agree (rev_in left) (rev_in revs) ys
 agree_still old left revs xs [] others far h = tt
 agree_still old left revs xs (y ∷ ys) others far h = (
   others y.id (far y.id (contains_head y.id (map cell_number ys))) ∙ h.0,
@@ -77,12 +57,12 @@ leaves_one c old left h other far = h other (λ e. far (subst (λ z. Contains (c
 -- how a loop over cells stands with these cells to come: the text so far, and what is left of the revisions
 pub record CellsStand (cells rest : List Cell) (revs left : List (ℕ × ℕ)) (before out : List ℕ) : Type 0 where
   pub text : out ++ as_text (cell_lines (rev_in revs) rest) ≡ before ++ as_text (cell_lines (rev_in revs) cells)
-  pub agree : Agree left revs rest
+  pub agree : Agree (rev_in left) (rev_in revs) rest
   pub distinct : AreDistinct (map cell_number rest)
   pub others : (other : ℕ) → ¬ Contains (map cell_number cells) other → (¬ Contains (map cell_number rest) other) × (rev_in left other ≡ rev_in revs other)
 
 pub cells_start : (cells : List Cell) (revs : List (ℕ × ℕ)) (out : List ℕ) → AreDistinct (map cell_number cells) → CellsStand cells cells revs revs out out
-cells_start cells revs out h = record { text = refl; agree = agree_itself revs cells; distinct = h; others = λ other far. (far, refl) }
+cells_start cells revs out h = record { text = refl; agree = agree_itself (rev_in revs) cells; distinct = h; others = λ other far. (far, refl) }
 
 pub cells_turn : (cells rest : List Cell) (c : Cell) (revs old left : List (ℕ × ℕ)) (before out next : List ℕ) (rev : ℕ) → CellsStand cells (c ∷ rest) revs old before out → rev ≡ rev_in old c.id → ((other : ℕ) → other ≢ c.id → rev_in left other ≡ rev_in old other) → next ≡ out ++ ended_line (cell_line (λ _. rev) c) → CellsStand cells rest revs left before next
 cells_turn cells rest c revs old left before out next rev s read others put =
@@ -107,7 +87,7 @@ cells_end cells revs left before out s = (sym (append-nil out) ∙ s.text, λ ot
 -- the same for a loop over sections
 pub record SectionsStand (sections rest : List Section) (revs left : List (ℕ × ℕ)) (before out : List ℕ) : Type 0 where
   pub text : out ++ as_text (section_lines (rev_in revs) rest) ≡ before ++ as_text (section_lines (rev_in revs) sections)
-  pub agree : Agree left revs (flat_map cells_of rest)
+  pub agree : Agree (rev_in left) (rev_in revs) (flat_map cells_of rest)
   pub distinct : AreDistinct (map cell_number (flat_map cells_of rest))
 
 pub sections_turn : (sections rest : List Section) (s : Section) (revs old left : List (ℕ × ℕ)) (before out next : List ℕ) → SectionsStand sections (s ∷ rest) revs old before out → LeavesOthers s.cells old left → next ≡ (out ++ ended_line (section_line s)) ++ as_text (cell_lines (rev_in old) s.cells) → SectionsStand sections rest revs left before next
@@ -115,7 +95,7 @@ sections_turn sections rest s revs old left before out next st leaves put =
     let later : List Cell = flat_map cells_of rest in
     let tail : List ℕ = as_text (section_lines (rev_in revs) rest) in
     let head : List ℕ = ended_line (section_line s) in
-    let lines : cell_lines (rev_in old) s.cells ≡ cell_lines (rev_in revs) s.cells = cell_lines-agree old revs s.cells (agree_left old revs s.cells later st.agree) in
+    let lines : cell_lines (rev_in old) s.cells ≡ cell_lines (rev_in revs) s.cells = cell_lines-agree (rev_in old) (rev_in revs) s.cells (agree_left (rev_in old) (rev_in revs) s.cells later st.agree) in
     let own : List ℕ = as_text (cell_lines (rev_in revs) s.cells) in
     let joined : as_text (cell_lines (rev_in revs) s.cells ++ section_lines (rev_in revs) rest) ≡ own ++ tail = flat_map-append ended_line (cell_lines (rev_in revs) s.cells) (section_lines (rev_in revs) rest) in
     record {
@@ -124,7 +104,7 @@ sections_turn sections rest s revs old left before out next st leaves put =
           ∙ append_assoc out head (own ++ tail)
           ∙ ap (λ t. out ++ (head ++ t)) (sym joined)
           ∙ st.text;
-      agree = agree_still old left revs s.cells later leaves (apart s.cells later st.distinct) (agree_right old revs s.cells later st.agree);
+      agree = agree_still old left revs s.cells later leaves (apart s.cells later st.distinct) (agree_right (rev_in old) (rev_in revs) s.cells later st.agree);
       distinct = distinct_right s.cells later st.distinct;
     }
 
@@ -134,13 +114,6 @@ distinct_here rest s h = distinct_left s.cells (flat_map cells_of rest) h
 -- what stands at a place is the first of what comes from there on
 pub drop-at : {T : Type 0} (xs : List T) (i : ℕ) (x : T) → i < length xs → x ≡ get_or xs i x → drop i xs ≡ x ∷ drop (i + 1) xs
 drop-at xs i x lt is = drop-cons xs i x lt ∙ ap (λ y. y ∷ drop (suc i) xs) (sym is) ∙ ap (λ n. x ∷ drop n xs) (sym (add-one i))
-
-section_lines-agree : (left revs : List (ℕ × ℕ)) (sections : List Section) → Agree left revs (flat_map cells_of sections) → section_lines (rev_in left) sections ≡ section_lines (rev_in revs) sections
-section_lines-agree left revs [] h = refl
-section_lines-agree left revs (s ∷ ss) h =
-    let later : List Cell = flat_map cells_of ss in
-    ap (λ ls. section_line s ∷ (ls ++ section_lines (rev_in left) ss)) (cell_lines-agree left revs s.cells (agree_left left revs s.cells later h))
-    ∙ ap (λ ls. section_line s ∷ (cell_lines (rev_in revs) s.cells ++ ls)) (section_lines-agree left revs ss (agree_right left revs s.cells later h))
 
 -- the live cells have numbers of their own
 live_distinct : (n : Parts) → IsNotebook n → AreDistinct (map cell_number (n.setup ∷ section_cells n))
@@ -155,13 +128,13 @@ sections_distinct n rules = (live_distinct n rules).1
 pub book_put : (n : Parts) (revs left : List (ℕ × ℕ)) (before named set out : List ℕ) (rev : ℕ) → IsNotebook n → rev ≡ rev_in revs n.setup.id → ((other : ℕ) → other ≢ n.setup.id → rev_in left other ≡ rev_in revs other) → named ≡ before ++ ended_line (codes "notebook " ++ text_of n.name) → set ≡ named ++ as_text (setup_lines (λ _. rev) n.setup) → out ≡ set ++ as_text (section_lines (rev_in left) n.sections) → out ≡ before ++ as_text (book_lines (rev_in revs) n)
 book_put n revs left before named set out rev rules read others name setup rest =
     let leaves : LeavesOthers (n.setup ∷ []) revs left = leaves_one n.setup revs left others in
-    let agree : Agree left revs (section_cells n) = agree_still revs left revs (n.setup ∷ []) (section_cells n) leaves (apart (n.setup ∷ []) (section_cells n) (live_distinct n rules)) (agree_itself revs (section_cells n)) in
+    let agree : Agree (rev_in left) (rev_in revs) (section_cells n) = agree_still revs left revs (n.setup ∷ []) (section_cells n) leaves (apart (n.setup ∷ []) (section_cells n) (live_distinct n rules)) (agree_itself (rev_in revs) (section_cells n)) in
     let title : List ℕ = ended_line (codes "notebook " ++ text_of n.name) in
     let own : List ℕ = as_text (setup_lines (rev_in revs) n.setup) in
     let tail : List ℕ = as_text (section_lines (rev_in revs) n.sections) in
     let joined : as_text (setup_lines (rev_in revs) n.setup ++ section_lines (rev_in revs) n.sections) ≡ own ++ tail = flat_map-append ended_line (setup_lines (rev_in revs) n.setup) (section_lines (rev_in revs) n.sections) in
     rest
-    ∙ ap (λ ls. set ++ as_text ls) (section_lines-agree left revs n.sections agree)
+    ∙ ap (λ ls. set ++ as_text ls) (section_lines-agree (rev_in left) (rev_in revs) n.sections agree)
     ∙ ap (λ t. t ++ tail) (setup ∙ ap (λ r. named ++ as_text (setup_lines (λ _. r) n.setup)) read ∙ ap (λ t. t ++ own) name)
     ∙ append_assoc (before ++ title) own tail
     ∙ append_assoc before title (own ++ tail)
