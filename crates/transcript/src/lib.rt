@@ -12,3 +12,6 @@ mod words;
 pub use book::{book_text, push_book, rev_in};
 pub use reply::{push_refusal, push_reply, reply_text};
 pub use words::{push_number, push_text};
+
+#[cfg(test)]
+mod tests;
