@@ -1,0 +1,4 @@
+pub mod Frame
+pub mod Holding
+pub mod Once
+pub mod TurnLaws

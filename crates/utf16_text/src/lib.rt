@@ -116,6 +116,7 @@ impl Text {
     pub fn push_str(&mut self, s: &str) -> Result<(), AllocError>
         ensures ok { OnOk result (self.new ≡ self.old ++ chars s.now) }
         ensures err { OnErr result (self.new ≡ self.old) }
+        ensures scalars { AreScalars self.new }
     {
         self.text.push_str(s)?;
         Ok(())
