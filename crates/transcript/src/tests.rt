@@ -4,6 +4,7 @@ ghost use Rattle.std.specs.Prelude.{◌≡◌, IfOk};
 use crate::{
     book_text, push_book, push_number, push_refusal, push_reply, push_text, reply_text, rev_in,
 };
+use delta::Delta;
 use notebook::{Cell, Kind, Notebook, Parts, Section};
 use plain_list::Items;
 use session_ops::{Refusal, Reply};
@@ -12,51 +13,43 @@ use std::test::Fail;
 use utf16_text::Text;
 
 #[test]
+fn refusals(rt: HostRuntime) -> Result<(), Fail> {
+    let alloc = rt.alloc();
+    let table = [
+        (Refusal::NotJoined, "refused NotJoined"),
+        (Refusal::AlreadyJoined, "refused AlreadyJoined"),
+        (Refusal::NoCell, "refused NoCell"),
+        (Refusal::TooNew { now: 0 }, "refused TooNew 0"),
+        (Refusal::TooOld { kept: 2 }, "refused TooOld 2"),
+        (Refusal::PastEnd { len: 4 }, "refused PastEnd 4"),
+        (Refusal::SplitsPair { at: 2 }, "refused SplitsPair 2"),
+    ];
+    for (refusal, want) in &table {
+        assert_eq!(rt;
+            reply_text(alloc, &Reply::Refused(*refusal))?.as_str(),
+            *want
+        );
+    }
+    Ok(())
+}
+
+#[test]
 fn replies(rt: HostRuntime) -> Result<(), Fail> {
     let alloc = rt.alloc();
-    let delta = delta::Delta::from_compact(Vec::new(alloc))
-        .ok()
-        .ok_or("delta")?;
-    let table = [
-        (Reply::Accepted, "ok"),
-        (
-            Reply::Applied {
-                rev: 18446744073709551615,
-                delta,
-            },
-            "accepted rev 18446744073709551615",
-        ),
-        (Reply::Refused(Refusal::NotJoined), "refused NotJoined"),
-        (
-            Reply::Refused(Refusal::AlreadyJoined),
-            "refused AlreadyJoined",
-        ),
-        (Reply::Refused(Refusal::NoCell), "refused NoCell"),
-        (
-            Reply::Refused(Refusal::TooNew { now: 0 }),
-            "refused TooNew 0",
-        ),
-        (
-            Reply::Refused(Refusal::TooOld { kept: 2 }),
-            "refused TooOld 2",
-        ),
-        (
-            Reply::Refused(Refusal::PastEnd { len: 4 }),
-            "refused PastEnd 4",
-        ),
-        (
-            Reply::Refused(Refusal::SplitsPair { at: 2 }),
-            "refused SplitsPair 2",
-        ),
-    ];
-    for (reply, want) in &table {
-        assert_eq!(rt; reply_text(alloc, reply)?.as_str(), *want);
-    }
     let mut out = String::from_str(alloc, "ann sent: ")?;
     push_reply(&mut out, &Reply::Accepted)?;
     push_refusal(&mut out, &Refusal::NoCell)?;
     push_number(&mut out, 907)?;
     assert_eq!(rt; out.as_str(), "ann sent: okNoCell907");
+    let delta = Delta::from_compact(Vec::new(alloc)).ok().ok_or("delta")?;
+    let applied = Reply::Applied {
+        rev: u64::MAX,
+        delta,
+    };
+    assert_eq!(rt;
+        reply_text(alloc, &applied)?.as_str(),
+        "accepted rev 18446744073709551615"
+    );
     Ok(())
 }
 
@@ -135,27 +128,41 @@ fn sample(alloc: Global, name: &str, setup: &str) -> Result<Notebook, AllocError
     }))
 }
 
+const PLAIN: &str = "notebook \"Plain\"
+section 4 \"Main\"
+cell 3 markdown rev 5 \"a😀Xb\"
+cell 1 code rev 1 \"x = \\\"1\\\"\\n\"
+section 7 \"Branch\" from 4
+cell 2 code rev 9 \"\"
+";
+
+const SET_UP: &str = "> notebook \"Set \\\"up\\\"\"
+cell 0 setup rev 2 \"y\\n\"
+section 4 \"Main\"
+cell 3 markdown rev 5 \"a😀Xb\"
+cell 1 code rev 0 \"x = \\\"1\\\"\\n\"
+section 7 \"Branch\" from 4
+cell 2 code rev 9 \"\"
+";
+
 #[test]
 fn books(rt: HostRuntime) -> Result<(), Fail> {
     let alloc = rt.alloc();
-    let lines =
-        "section 4 \"Main\"\ncell 3 markdown rev 5 \"a😀Xb\"\ncell 1 code rev 1 \"x = \\\"1\\\"\\n\"\nsection 7 \"Branch\" from 4\ncell 2 code rev 9 \"\"\n";
-    let revs = [(0, 2), (3, 5), (1, 1), (2, 9), (3, 6)];
     let plain = sample(alloc, "Plain", "")?;
-    let mut wanted = String::from_str(alloc, "notebook \"Plain\"\n")?;
-    wanted.push_str(lines)?;
-    assert_eq!(rt; book_text(alloc, &plain, &revs)?.as_str(), wanted.as_str());
-    let setup = sample(alloc, "Set \"up\"", "y\n")?;
-    let mut wanted = String::from_str(
-        alloc,
-        "> notebook \"Set \\\"up\\\"\"\ncell 0 setup rev 2 \"y\\n\"\n",
-    )?;
-    wanted.push_str(lines)?;
-    let mixed = [(2, 9), (1, 1), (0, 2), (3, 5), (3, 6), (8, 8)];
+    let in_order = [(0, 2), (3, 5), (1, 1), (2, 9), (3, 6)];
+    assert_eq!(rt; book_text(alloc, &plain, &in_order)?.as_str(), PLAIN);
+    Ok(())
+}
+
+#[test]
+fn books_with_a_setup_cell(rt: HostRuntime) -> Result<(), Fail> {
+    let alloc = rt.alloc();
+    let set_up = sample(alloc, "Set \"up\"", "y\n")?;
+    let mixed = [(2, 9), (8, 8), (0, 2), (3, 5), (3, 6)];
     let mut out = String::from_str(alloc, "> ")?;
-    push_book(&mut out, &setup, &mixed)?;
-    assert_eq!(rt; out.as_str(), wanted.as_str());
+    push_book(&mut out, &set_up, &mixed)?;
+    assert_eq!(rt; out.as_str(), SET_UP);
     assert_eq!(rt; rev_in(&mixed, 3), 5);
-    assert_eq!(rt; rev_in(&mixed, 4), 0);
+    assert_eq!(rt; rev_in(&mixed, 1), 0);
     Ok(())
 }
