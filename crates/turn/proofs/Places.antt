@@ -63,6 +63,11 @@ module _ {A : Type 0} where
   sum_le f [] h = omega arith
   sum_le f (x ∷ xs) h = let k = sum_le f xs h in let m = h x in omega (arith, sum_by-cons f x xs)
 
+  -- what holds of all holds of each
+  pub of_all : (P : A → Type 0) (xs ys : List A) (x : A) → All P (xs ++ x ∷ ys) → P x
+  of_all P [] ys x h = All-head P x ys h
+  of_all P (y ∷ xs) ys x h = of_all P xs ys x (All-tail P y (xs ++ x ∷ ys) h)
+
 -- how often a number stands in a list
 times_cons : (q n : ℕ) (ns : List ℕ) → times q (n ∷ ns) ≡ cond (eqb n q) 1 0 + times q ns
 times_cons q n ns = sum_by-cons (λ (m : ℕ). cond (eqb m q) 1 0) n ns
@@ -72,6 +77,9 @@ times_here q ns = times_cons q q ns ∙ ap (λ (b : Bool). cond b 1 0 + times q 
 
 pub times_else : (q n : ℕ) (ns : List ℕ) → n ≢ q → times q (n ∷ ns) ≡ times q ns
 times_else q n ns other = times_cons q n ns ∙ (ap (λ (b : Bool). cond b 1 0 + times q ns) (ne_eqb n q other) ∙ omega arith)
+
+pub times_one : (q n : ℕ) → times q (n ∷ []) ≡ cond (eqb n q) 1 0
+times_one q n = let h = times_cons q n [] in let z : times q [] ≡ 0 = refl in omega arith
 
 pub times_append : (q : ℕ) (ms ns : List ℕ) → times q (ms ++ ns) ≡ times q ms + times q ns
 times_append q ms ns = sum_by-append (λ (m : ℕ). cond (eqb m q) 1 0) ms ns

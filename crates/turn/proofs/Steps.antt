@@ -54,6 +54,7 @@ module _ {O E S : Type 0} (list : S → List E) (opening_of : S → O) (number_o
     turn = f.turn;
     prefix = f.prefix;
     own = f.own;
+    alone = f.alone;
     past = f.past;
   }
 
@@ -80,6 +81,7 @@ module _ {O E S : Type 0} (list : S → List E) (opening_of : S → O) (number_o
             turn = λ on. absurd (true_false false on refl);
             prefix = mine.prefix;
             own = mine.own;
+            alone = mine.alone;
             past = mine.past;
           } (λ j u _ e. later r.next r.serving r.log j u (r.each j u e));
           longest = seen_set s.views id me.0 w r.log at live (λ e. e) r.longest;
@@ -136,6 +138,7 @@ module _ {O E S : Type 0} (list : S → List E) (opening_of : S → O) (number_o
             turn = λ _. (drawn_t ∙ ap Some (sym now), home.2);
             prefix = subst (λ (l : List E). IsPrefix l r.log) (sym home.2) (prefix_refl r.log);
             own = λ _. ap (entries_by number_of id) (sym home.2);
+            alone = λ _. (subst (λ (l : List E). IsPrefix l r.log) (sym home.2) (prefix_refl r.log), ap (entries_by number_of id) (sym home.2));
             past = mine.past;
           } (λ j u _ e. r.each j u e);
           longest = seen_set s.views id me.0 w r.log at live (λ _. home.2) r.longest;
@@ -196,6 +199,7 @@ module _ {O E S : Type 0} (list : S → List E) (opening_of : S → O) (number_o
             turn = λ _. (now.0, refl);
             prefix = prefix_refl (list y);
             own = λ _. refl;
+            alone = λ _. (prefix_refl (list y), refl);
             past = past_stays id me.0 at;
           } (λ j u other e. let f = r.each j u e in record {
             spent = f.spent;
@@ -205,6 +209,7 @@ module _ {O E S : Type 0} (list : S → List E) (opening_of : S → O) (number_o
             turn = λ u_on. absurd (other (r.apart j id u me.0 r.serving e at (f.turn u_on).0 now.0));
             prefix = prefix_trans u.seen r.log (list y) f.prefix longer_by;
             own = λ on_j. extends_other number_of id j r.log (list y) other grown ∙ f.own on_j;
+            alone = λ on_j. let a = f.alone on_j in (prefix_trans u.alone r.log (list y) a.0 longer_by, extends_other number_of id j r.log (list y) other grown ∙ a.1);
             past = past_stays j u e;
           });
           longest = (id, w, set_here s.views id w (at_inside s.views id me.0 at), live, refl);
@@ -242,6 +247,7 @@ module _ {O E S : Type 0} (list : S → List E) (opening_of : S → O) (number_o
             turn = λ off. absurd (true_false false off refl);
             prefix = mine.prefix;
             own = mine.own;
+            alone = mine.alone;
             past = mine.past;
           } (λ j u other e. let f = r.each j u e in record {
             spent = f.spent;
@@ -251,6 +257,7 @@ module _ {O E S : Type 0} (list : S → List E) (opening_of : S → O) (number_o
             turn = λ u_on. absurd (other (r.apart j id u me.0 r.serving e at (f.turn u_on).0 now.0));
             prefix = f.prefix;
             own = f.own;
+            alone = f.alone;
             past = f.past;
           });
           longest = seen_set s.views id me.0 w r.log at live (λ e. e) r.longest;

@@ -1,5 +1,5 @@
 -- What contracts see of a lock and of its passes.
-use Rattle.std.specs.Prelude.{◌≡◌, ◌≢◌, ℕ, ◌<◌, List, [], Option, Some, All, slice_get}
+use Rattle.std.specs.Prelude.{◌≡◌, ◌≢◌, ℕ, zero, suc, List, [], ◌∷◌, ◌++◌, Option, Some, All}
 use mathlib.Core.List.{IsPrefix}
 use Rattle.atomic_table.specs.Seated.{TableId}
 use Rattle.turn.specs.Histories.{entries_by}
@@ -23,12 +23,13 @@ module _ {O E : Type 0} where
   Belongs p t = (p.home ≡ t.home) × (p.opening ≡ Some t.opening)
 
   -- the pass of this number, before its first turn
-  abbrev pub fresh_pass : Lock O → ℕ → Pass O E
-  fresh_pass t i = record { home = t.home; opening = Some t.opening; number = i; seen = [] }
+  abbrev pub fresh_pass : TableId → O → ℕ → Pass O E
+  fresh_pass home opening i = record { home = home; opening = Some opening; number = i; seen = [] }
 
-  -- the passes are those of the lock, numbered from 0
-  abbrev pub AreFresh : Lock O → List (Pass O E) → Type 0
-  AreFresh t passes = (i : ℕ) → i < t.seats → slice_get passes i ≡ Some (fresh_pass t i)
+  -- the passes of the numbers below n, in order
+  abbrev pub fresh_passes : TableId → O → ℕ → List (Pass O E)
+  fresh_passes home opening zero = []
+  fresh_passes home opening (suc n) = fresh_passes home opening n ++ fresh_pass home opening n ∷ []
 
   module _ (number_of : E → ℕ) where
     -- each of these passes has seen a beginning of the list, in which all entries under its number are

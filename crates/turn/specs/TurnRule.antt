@@ -6,6 +6,7 @@ use mathlib.Core.List.{IsPrefix}
 use lib.ListN.{get_elem?}
 use Rattle.atomic_table.specs.Table.{State, Me, Step}
 use Rattle.turn.specs.Histories.{entries_by}
+use Rattle.turn.specs.Passes.{Pass}
 use Rattle.turn.specs.declared.rule.View.{View}
 use Rattle.turn.specs.declared.rule.Ended.{Ended}
 
@@ -22,11 +23,11 @@ module _ {O E : Type 0} where
 
   -- what the first seat knows
   abbrev pub first_view : O → View O E
-  first_view o = record { opening = Some o; number = 0; seen = []; ticket = None; turn = false; ended = []; made = 1 }
+  first_view o = record { opening = Some o; number = 0; seen = []; alone = []; ticket = None; turn = false; ended = []; made = 1 }
 
   -- what is left of a seat that was joined into another
   abbrev pub spent_view : View O E
-  spent_view = record { opening = None; number = 0; seen = []; ticket = None; turn = false; ended = []; made = 0 }
+  spent_view = record { opening = None; number = 0; seen = []; alone = []; ticket = None; turn = false; ended = []; made = 0 }
 
   -- whether the seat wasn't joined into another
   abbrev pub is_live : View O E → Bool
@@ -62,6 +63,7 @@ module _ {O E : Type 0} where
     pub prefix : IsPrefix v.seen log
     -- under a live seat's number stand the entries that it has seen there
     pub own : is_live v ≡ true → entries_by number_of i log ≡ entries_by number_of i v.seen
+    pub alone : is_live v ≡ true → IsPrefix v.alone log × (entries_by number_of i log ≡ entries_by number_of i v.alone)
     -- under an ended number stand just the entries that were kept with it
     pub past : All (λ e. IsPrefix e.seen log × (entries_by number_of e.number log ≡ entries_by number_of e.number e.seen)) v.ended
 
@@ -129,7 +131,7 @@ module _ {O E : Type 0} where
     with_ticket v t = record v { ticket = t; turn = false }
 
     abbrev pub in_turn : View O E → List E → View O E
-    in_turn v log = record v { seen = log; turn = true }
+    in_turn v log = record v { seen = log; alone = log; turn = true }
 
     -- a ticket was drawn: the old value of word 0
     abbrev pub Drew : Step (Option S) → Holder → ℕ → Holder → Type 0
@@ -164,18 +166,34 @@ module _ {O E : Type 0} where
     pub turn : m.0.turn ≡ false
     pub hand : m.1 ≡ []
 
-  -- a new seat: the one that makes it counts it
-  abbrev pub counts_one_more : View O E → View O E
-  counts_one_more v = record v { made = v.made + 1 }
+  -- no seat was joined into it
+  pub record IsSingle (v : View O E) : Type 0 where
+    pub ended : v.ended ≡ []
+    pub alone : v.alone ≡ v.seen
 
-  -- and it has a copy of the opening and of what was seen, a new number, no ticket, and nothing ended
+  -- a new seat is split off: the old one makes no more
+  abbrev pub hands_on : View O E → View O E
+  hands_on v = record v { made = 0 }
+
+  -- and the new one has a copy of the opening and of what was seen, a new number, no ticket, and nothing ended
   abbrev pub new_seat : View O E → View O E
-  new_seat v = record { opening = v.opening; number = v.made; seen = v.seen; ticket = None; turn = false; ended = []; made = 0 }
+  new_seat v = record { opening = v.opening; number = v.made; seen = v.seen; alone = v.seen; ticket = None; turn = false; ended = []; made = v.made + 1 }
 
   -- the seat w ends with this number and this list
   abbrev pub end_of : View O E → Ended E
   end_of w = record { number = w.number; seen = w.seen }
 
+  -- and so does the seat of a pass
+  abbrev pub end_of_pass : Pass O E → Ended E
+  end_of_pass p = record { number = p.number; seen = p.seen }
+
   -- w is joined into v, which takes the longer list and all that has ended
   abbrev pub joined : View O E → View O E → View O E
   joined v w = record v { seen = longer v.seen w.seen; ended = v.ended ++ end_of w ∷ w.ended; made = max v.made w.made }
+
+  -- what a seat that stands for all numbers knows of the state that it finds at the end
+  pub record IsWhole {S : Type 0} (list : S → List E) (opening_of : S → O) (number_of : E → ℕ) (opening : O) (v : View O E) (y : S) : Type 0 where
+    pub opened : opening_of y ≡ opening
+    pub alone : IsPrefix v.alone (list y) × (entries_by number_of v.number (list y) ≡ entries_by number_of v.number v.alone)
+    pub past : All (λ e. IsPrefix e.seen (list y) × (entries_by number_of e.number (list y) ≡ entries_by number_of e.number e.seen)) v.ended
+    pub others : (q : ℕ) → times q (numbers_of v) ≡ 0 → entries_by number_of q (list y) ≡ []

@@ -16,13 +16,15 @@ pub struct View<O, E> {
     pub number: u64,
     /// The history as far as the seat has seen it.
     pub seen: LinkedList<E>,
+    /// What the seat had seen before others were joined into it.
+    pub alone: LinkedList<E>,
     /// The drawn ticket, counted without end.
     pub ticket: Option<u64>,
     /// Whether the turn is the seat's own.
     pub turn: bool,
     /// The seats that were joined into this one.
     pub ended: LinkedList<Ended<E>>,
-    /// How many seats there are, for the one that makes them, and 0 for the others.
+    /// How many seats there are, for the one that makes the next, and 0 for the others.
     pub made: u64,
 }
 
@@ -109,9 +111,9 @@ impl<S: Kept> Play<Option<S>, View<S::Opening, S::Entry>> for Serve<S> {
 pub struct NewSeat;
 
 impl<O, E> Split<View<O, E>> for NewSeat {
-    ghost use Rattle.turn.specs.TurnRule.{counts_one_more, new_seat};
+    ghost use Rattle.turn.specs.TurnRule.{hands_on, new_seat};
 
-    ghost left = { counts_one_more };
+    ghost left = { hands_on };
 
     ghost right = { new_seat };
 }
