@@ -1,5 +1,5 @@
 -- The table as it is laid down keeps the turn rule, and what the turn rule says of the table at its end.
-use Rattle.std.proofs.Common.{◌≡◌, ◌≢◌, ℕ, ◌+◌, ◌<◌, ◌≤◌, zero, suc, Bool, true, false, cond, eqb, nat_lt, List, [], ◌∷◌, ◌++◌, length, map, refl, sym, ap, ◌∙◌, subst, ⊎_elim, inl, inr, arith, Option, Some, None, add-one}
+use Rattle.std.proofs.Common.{◌≡◌, ◌≢◌, ℕ, ◌+◌, ◌<◌, ◌≤◌, zero, suc, Bool, true, false, cond, eqb, nat_lt, List, [], ◌∷◌, ◌++◌, length, map, refl, sym, ap, ◌∙◌, subst, ⊎_elim, inl, inr, arith, Option, Some, None, add-one, length-append}
 use Rattle.std.specs.Prelude.{sum_by, All}
 use Rattle.std.proofs.lemmas.Bool.Decides.{nat_tests}
 use Rattle.std.proofs.lemmas.List.Sums.{sum_by-cons}
@@ -13,7 +13,7 @@ use Rattle.atomic_table.specs.Table.{State, Me, opening, Final, Seen}
 use Rattle.atomic_table.specs.Seated.{TableId}
 use Rattle.turn.specs.Histories.{entries_by}
 use Rattle.turn.specs.TurnRule.{times, is_live, numbers_of, IsSeat, SomeTurn, IsHome, TurnRule, first_view, IsWhole, IsIdle, IsSingle, end_of_pass}
-use Rattle.turn.specs.Passes.{Pass, fresh_pass, fresh_passes, HaveSeen, IsAllOf}
+use Rattle.turn.specs.Passes.{Lock, Pass, Belongs, fresh_pass, fresh_passes, HaveSeen, IsAllOf}
 use Rattle.turn.specs.declared.rule.View.{View}
 use Rattle.turn.specs.declared.rule.Ended.{Ended}
 use Rattle.turn.proofs.Places.{true_false, none_some, sum_one, sum_two, ended_numbers, live_numbers, times_one, times_else}
@@ -146,3 +146,12 @@ module _ {O E : Type 0} where
   -- one more pass
   pub one_dealt : (home : TableId) (o : O) (n : ℕ) (passes : List (Pass O E)) → passes ≡ fresh_passes home o n → passes ++ fresh_pass home o n ∷ [] ≡ fresh_passes home o (n + 1)
   one_dealt home o n passes e = ap (λ (l : List (Pass O E)). l ++ fresh_pass home o n ∷ []) e ∙ sym (ap (fresh_passes home o) (add-one n))
+
+  -- fresh passes of a lock belong to it
+  pub fresh_belong : (t : Lock O) (n : ℕ) → All (λ (p : Pass O E). Belongs p t) (fresh_passes t.home t.opening n)
+  fresh_belong t zero = All-nil (λ (p : Pass O E). Belongs p t)
+  fresh_belong t (suc n) = All-push (λ (p : Pass O E). Belongs p t) (fresh_passes t.home t.opening n) (fresh_pass t.home t.opening n) (fresh_belong t n) (refl, refl)
+
+pub length-fresh_passes : (O E : Type 0) (home : TableId) (o : O) (n : ℕ) → length (fresh_passes {E = E} home o n) ≡ n
+length-fresh_passes O E home o zero = refl
+length-fresh_passes O E home o (suc n) = let h = length-fresh_passes O E home o n in omega (arith, length-append (fresh_passes {E = E} home o n) (fresh_pass {E = E} home o n ∷ []))

@@ -8,6 +8,8 @@
 
 mod kept;
 mod rule;
+#[cfg(test)]
+mod tests;
 mod turns;
 
 pub use kept::{Act, Kept};

@@ -173,6 +173,8 @@ impl<S: Kept> Turns<S> {
         requires empty { S.list state ≡ [] }
         ensures lock { IfOk result (λ t. (t.0.opening ≡ S.opening state) × (t.0.seats ≡ seats)) }
         ensures passes { IfOk result (λ t. t.1.items ≡ fresh_passes t.0.home t.0.opening seats) }
+        ensures count { IfOk result (λ t. vec_len t.1 ≡ seats) }
+        ensures belong { IfOk result (λ t. All (λ p. Belongs p t.0) t.1.items) }
     {
         let (board, first) = lay(alloc, state, seats)?;
         let passes = deal(alloc, &board, first, seats)?;
