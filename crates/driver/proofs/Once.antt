@@ -28,7 +28,7 @@ flat-sources : (f : Cell → List ℕ) (ss : List Section) → flat_map cells_of
 flat-sources f [] = refl
 flat-sources f (s ∷ ss) = rw (flat-sources f ss, sources-append f s.cells (flat_map cells_of ss)) refl
 
-cells-resourced : (f : Cell → List ℕ) (n : Parts) → cells (resourced f n) ≡ resourced_cells f (cells n)
+pub cells-resourced : (f : Cell → List ℕ) (n : Parts) → cells (resourced f n) ≡ resourced_cells f (cells n)
 cells-resourced f n = rw (flat-sources f n.sections) refl
 
 text-append : (t : List ℕ) (xs : List (List Step)) (x : List Step) → text_after_all t (xs ++ x ∷ []) ≡ text_after x (text_after_all t xs)
@@ -40,7 +40,7 @@ more-of : (b : Bool) (d : List Step) (xs : List (List Step)) (ys : List (List St
 more-of true d xs ys = refl
 more-of false d xs ys = refl
 
-taken-append : (id : ℕ) (ts : List Taken) (t : Taken) → taken_by id (ts ++ t ∷ []) ≡ taken_by id ts ++ (if t.cell == id then t.delta ∷ [] else [])
+pub taken-append : (id : ℕ) (ts : List Taken) (t : Taken) → taken_by id (ts ++ t ∷ []) ≡ taken_by id ts ++ (if t.cell == id then t.delta ∷ [] else [])
 taken-append id [] t = refl
 taken-append id (u ∷ ts) t = rw (taken-append id ts t) (more-of (u.cell == id) u.delta (taken_by id ts) (if t.cell == id then t.delta ∷ [] else []))
 
