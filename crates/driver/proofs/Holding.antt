@@ -20,7 +20,7 @@ unfolding with-section
 cells-stay [] = refl
 cells-stay (s ∷ ss) = rw (sources-stay s.cells, cells-stay ss) refl
 
-note-stays : (n : Parts) → resourced (own_source []) n ≡ n
+pub note-stays : (n : Parts) → resourced (own_source []) n ≡ n
 note-stays n = rw (cells-stay n.sections) refl
 
 pub holds-all : (n0 : Parts) (h : List Entry) (c : Client) → c.seen ≡ h → c.pending ≡ [] → held n0 c ≡ (state n0 h).book

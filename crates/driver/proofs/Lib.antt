@@ -1,3 +1,4 @@
+pub mod ClientLaws
 pub mod Frame
 pub mod Holding
 pub mod Once

@@ -183,7 +183,7 @@ one-at-most : (b : Bool) → (if b then 1 else 0) ≤ 1
 one-at-most true = omega arith
 one-at-most false = omega arith
 
-changes-one : (cell : ℕ) (d : List Step) → ChangesOne (moved_source cell d) cell (text_after d)
+pub changes-one : (cell : ℕ) (d : List Step) → ChangesOne (moved_source cell d) cell (text_after d)
 changes-one cell d = record { one = λ c e. ap (λ b. if b then text_after d c.source else c.source) e; others = λ c e. ap (λ b. if b then text_after d c.source else c.source) e }
 
 still-known : (st st' : State) (ks : List Known) → ((k : ℕ) → revision st k ≤ revision st' k) → AllByRecursion (IsKnownBelow st) ks → AllByRecursion (IsKnownBelow st') ks
@@ -194,7 +194,7 @@ rev-split : (cell rev k old : ℕ) (rs : List (ℕ × ℕ)) (b : Bool) → (cell
 rev-split cell rev k old rs true t is same up = let e : cell ≡ k = grind (arith, nat_tests, t) in subst (λ n. rev_in (raised cell rev rs) n ≡ old + 1) e (same ∙ up e)
 rev-split cell rev k old rs false t is same up = raised-other cell rev k rs t ∙ (is ∙ omega arith)
 
-taken-holds : (st : State) (n : Parts) (rs : List (ℕ × ℕ)) (js : List ℕ) (client cell base rev : ℕ) (d : List Step) (c : Cell) → Holds st n rs js → found cell (cells n) ≡ Some c → rev ≡ revision st cell + 1
+pub taken-holds : (st : State) (n : Parts) (rs : List (ℕ × ℕ)) (js : List ℕ) (client cell base rev : ℕ) (d : List Step) (c : Cell) → Holds st n rs js → found cell (cells n) ≡ Some c → rev ≡ revision st cell + 1
     → Holds (after_call st (Client client (Delta cell base d)) (Applied rev d)) (with_source cell (text_after d c.source) n) (raised cell rev rs) js
 taken-holds st n rs js client cell base rev d c h f r =
     let there : found cell (cells st.book) ≡ Some c = subst (λ b. found cell (cells b) ≡ Some c) h.book f in

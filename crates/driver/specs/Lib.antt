@@ -1,4 +1,6 @@
 pub mod Headline
+pub mod Holder
+pub mod Lines
 pub mod Player
 pub mod Revisions
 pub mod Session

@@ -11,7 +11,7 @@ mod words;
 
 pub use book::{book_text, push_book, rev_in};
 pub use reply::{push_refusal, push_reply, reply_text};
-pub use words::{push_number, push_text};
+pub use words::{push_named, push_number, push_plain, push_text};
 
 #[cfg(test)]
 mod tests;

@@ -6,7 +6,7 @@ use itoa::Buffer;
 use std::alloc::AllocError;
 
 /// Puts bytes as they are after a text.
-pub(crate) fn push_plain(out: &mut String, plain: &str) -> Result<(), AllocError>
+pub fn push_plain(out: &mut String, plain: &str) -> Result<(), AllocError>
     ensures { OnOk result (string_bytes out.new ≡ string_bytes out.old ++ plain.now) }
 {
     out.push_str(plain)?;
@@ -33,7 +33,7 @@ pub fn push_text(out: &mut String, text: &str) -> Result<(), AllocError>
 }
 
 /// Puts a name and a number after a text.
-pub(crate) fn push_named(out: &mut String, name: &str, n: u64) -> Result<(), AllocError>
+pub fn push_named(out: &mut String, name: &str, n: u64) -> Result<(), AllocError>
     ensures { OnOk result (string_bytes out.new ≡ string_bytes out.old ++ (name.now ++ decimal n)) }
 {
     push_plain(out, name)?;
