@@ -145,24 +145,38 @@ section 7 \"Branch\" from 4
 cell 2 code rev 9 \"\"
 ";
 
+// Helpers without clauses keep the long texts out of the tests' own proofs.
+fn shown(alloc: Global, revs: &[(u64, u64)]) -> Result<String, AllocError> {
+    let book = sample(alloc, "Plain", "")?;
+    book_text(alloc, &book, revs)
+}
+
+fn pushed(alloc: Global, revs: &[(u64, u64)]) -> Result<String, AllocError> {
+    let book = sample(alloc, "Set \"up\"", "y\n")?;
+    let mut out = String::from_str(alloc, "> ")?;
+    push_book(&mut out, &book, revs)?;
+    Ok(out)
+}
+
 #[test]
 fn books(rt: HostRuntime) -> Result<(), Fail> {
-    let alloc = rt.alloc();
-    let plain = sample(alloc, "Plain", "")?;
     let in_order = [(0, 2), (3, 5), (1, 1), (2, 9), (3, 6)];
-    assert_eq!(rt; book_text(alloc, &plain, &in_order)?.as_str(), PLAIN);
+    let text = shown(rt.alloc(), &in_order)?;
+    assert_eq!(rt; text.as_str(), PLAIN);
     Ok(())
 }
 
 #[test]
 fn books_with_a_setup_cell(rt: HostRuntime) -> Result<(), Fail> {
-    let alloc = rt.alloc();
-    let set_up = sample(alloc, "Set \"up\"", "y\n")?;
     let mixed = [(2, 9), (8, 8), (0, 2), (3, 5), (3, 6)];
-    let mut out = String::from_str(alloc, "> ")?;
-    push_book(&mut out, &set_up, &mixed)?;
-    assert_eq!(rt; out.as_str(), SET_UP);
-    assert_eq!(rt; rev_in(&mixed, 3), 5);
-    assert_eq!(rt; rev_in(&mixed, 1), 0);
+    let text = pushed(rt.alloc(), &mixed)?;
+    assert_eq!(rt; text.as_str(), SET_UP);
     Ok(())
+}
+
+#[test]
+fn revisions(rt: HostRuntime) {
+    let revs = [(2, 9), (3, 5), (3, 6)];
+    assert_eq!(rt; rev_in(&revs, 3), 5);
+    assert_eq!(rt; rev_in(&revs, 1), 0);
 }
