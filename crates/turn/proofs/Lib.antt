@@ -2,4 +2,5 @@ pub mod Entries
 pub mod Places
 pub mod Steps
 pub mod Seats
-pub mod Ends
+pub mod Opening
+pub mod Closing

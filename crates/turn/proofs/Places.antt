@@ -1,14 +1,14 @@
 -- Lists of views after one of them has changed, or one has come.
-use Rattle.std.proofs.Common.{◌≡◌, ◌≢◌, ℕ, ◌+◌, ◌≤◌, ◌<◌, zero, suc, Bool, true, false, cond, eqb, eq-eqb, ne_eqb, nat_lt, List, [], ◌∷◌, ◌++◌, length, map, set, refl, sym, ap, ap₂, ◌∙◌, subst, ⊎_elim, inl, inr, ◌⊎◌, arith, length-set, length-append, Option, Some, None}
+use Rattle.std.proofs.Common.{◌≡◌, ◌≢◌, ℕ, ◌+◌, ◌≤◌, ◌<◌, zero, suc, Bool, true, false, cond, eqb, eq-eqb, ne_eqb, nat_lt, List, [], ◌∷◌, ◌++◌, length, map, set, refl, sym, ap, ◌∙◌, subst, ⊎_elim, inl, inr, ◌⊎◌, arith, length-set, length-append, Option, Some, None}
 use Rattle.std.specs.Prelude.{sum_by, All}
-use Rattle.std.proofs.lemmas.List.Sums.{sum_by-cons, sum_by-append, sum_by_push}
+use Rattle.std.proofs.lemmas.List.Sums.{sum_by-cons, sum_by-append}
 use Rattle.std.proofs.lemmas.List.Elements.{All-nil, All-cons, All-head, All-tail}
 use mathlib.Core.Logic.{dite}
 use native.Mathlib.Decide.{ℕ_discrete}
 use mathlib.Core.Option.{some, some-injective, some-ne-none}
 use lib.ListN.{get_elem?}
-use Rattle.atomic_table.proofs.Lists.{at_set, set_else, set_here, at_longer}
-use Rattle.turn.specs.TurnRule.{times, ticket_count, drawn, is_live, numbers_of, spent_view, IsSeat, AreNumbered, HaveMaker, AreApart, SomeTurn, SomeSeen}
+use Rattle.atomic_table.proofs.Lists.{at_set, set_else, set_here}
+use Rattle.turn.specs.TurnRule.{times, ticket_count, drawn, is_live, numbers_of, spent_view, AreNumbered, HaveMaker, AreApart, SomeTurn, SomeSeen}
 use Rattle.turn.specs.declared.rule.View.{View}
 use Rattle.turn.specs.declared.rule.Ended.{Ended}
 

@@ -1,6 +1,6 @@
 -- A seat that is split off and two seats that are joined keep the turn rule.
-use Rattle.std.proofs.Common.{◌≡◌, ◌≢◌, ℕ, ◌+◌, ◌<◌, ◌≤◌, zero, suc, Bool, true, false, cond, eqb, nat_lt, max, List, [], ◌∷◌, ◌++◌, length, map, set, refl, sym, ap, ◌∙◌, subst, ⊎_elim, inl, inr, arith, length-set, length-append, Option, Some, None, ◌⊎◌}
-use Rattle.std.specs.Prelude.{is_some, sum_by, All}
+use Rattle.std.proofs.Common.{◌≡◌, ◌≢◌, ℕ, ◌+◌, ◌<◌, true, false, cond, eqb, nat_lt, max, List, [], ◌∷◌, ◌++◌, length, set, refl, sym, ap, ◌∙◌, subst, ⊎_elim, inl, inr, arith, length-set, length-append, Option, None, ◌⊎◌}
+use Rattle.std.specs.Prelude.{is_some, sum_by}
 use Rattle.std.proofs.lemmas.Bool.Decides.{nat_tests}
 use Rattle.std.proofs.lemmas.List.Sums.{sum_by_push}
 use Rattle.std.proofs.lemmas.List.Elements.{All-nil, All-cons, All-append}
@@ -13,7 +13,7 @@ use lib.ListN.{get_elem?}
 use Rattle.atomic_table.specs.Table.{State, Splits, Joins}
 use Rattle.atomic_table.proofs.Lists.{set_else, set_here, at_longer}
 use Rattle.turn.specs.Histories.{entries_by}
-use Rattle.turn.specs.TurnRule.{times, ticket_count, is_live, numbers_of, spent_view, IsSeat, AreNumbered, HaveMaker, SomeTurn, SomeSeen, TurnRule, hands_on, new_seat, end_of, longer, joined}
+use Rattle.turn.specs.TurnRule.{times, ticket_count, is_live, numbers_of, spent_view, IsSeat, AreNumbered, HaveMaker, SomeTurn, SomeSeen, TurnRule, hands_on, new_seat, end_of, joined}
 use Rattle.turn.specs.declared.rule.View.{View}
 use Rattle.turn.specs.declared.rule.Ended.{Ended}
 use Rattle.turn.proofs.Entries.{prefix_longer, longer_whole, entries_longer, entries_none}

@@ -10,7 +10,7 @@ use lib.ListN.{get_elem?}
 use Rattle.atomic_table.specs.Table.{State, Me, step, keeps, takes, gives, homes_after, rest, Allows}
 use Rattle.atomic_table.proofs.Lists.{set_again, one_turn, set_here}
 use Rattle.turn.specs.Histories.{entries_by, Extends}
-use Rattle.turn.specs.TurnRule.{ticket_count, drawn, is_live, numbers_of, spent_view, IsSeat, SomeTurn, IsHome, TurnRule, hand, with_ticket, in_turn, Drew, Looked, Published, Served}
+use Rattle.turn.specs.TurnRule.{ticket_count, is_live, IsSeat, SomeTurn, IsHome, TurnRule, with_ticket, in_turn, Drew, Looked, Published, Served}
 use Rattle.turn.specs.declared.rule.View.{View}
 use Rattle.turn.specs.declared.rule.Ended.{Ended}
 use Rattle.turn.proofs.Entries.{prefix_refl, prefix_trans, extends_prefix, extends_other}

@@ -1,8 +1,6 @@
-use Rattle.std.proofs.Common.{rules, ◌≡◌, ℕ, ◌+◌, ◌-◌, ap, sym, ◌∙◌, arith}
-use Rattle.turn.specs.Passes.{fresh_passes}
+use Rattle.std.proofs.Common.{rules, ◌≡◌, ◌+◌, ap, arith}
 use Rattle.turn.specs.TurnRule.{is_live}
 use Rattle.turn.proofs.Seats.{splits}
-use Rattle.turn.proofs.Ends.{made_idle, one_dealt}
 use Rattle.turn.proofs.turns.deal.Goals as goal
 
 pub split_seat-next-requires : goal.split_seat-next-requires

@@ -1,6 +1,6 @@
 use Rattle.std.proofs.Common.{◌≡◌, ◌+◌, []}
 use Rattle.turn.specs.Passes.{fresh_passes}
-use Rattle.turn.proofs.Ends.{made_view}
+use Rattle.turn.proofs.Opening.{made_view}
 use Rattle.turn.proofs.turns.deal.Given as goal
 
 -- the passes of the numbers so far are dealt, and the newest seat has the next number

@@ -1,7 +1,7 @@
-use Rattle.std.proofs.Common.{rules, ◌≡◌, ℕ, List, [], ◌∷◌, Some, Option, subst, sym, ap, ◌∙◌}
+use Rattle.std.proofs.Common.{rules, ◌≡◌, List, [], ◌∷◌, Some, Option, subst, sym}
 use Rattle.atomic_table.specs.Table.{opening}
 use Rattle.turn.specs.TurnRule.{TurnRule, first_view}
-use Rattle.turn.proofs.Ends.{opens}
+use Rattle.turn.proofs.Opening.{opens}
 use Rattle.turn.proofs.turns.lay.Goals as goal
 
 pub new-requires : goal.new-requires

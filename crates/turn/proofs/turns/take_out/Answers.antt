@@ -1,6 +1,6 @@
 use Rattle.std.proofs.Common.{◌≡◌, Some, subst, sym, ◌∙◌}
 use Rattle.turn.specs.TurnRule.{IsWhole}
-use Rattle.turn.proofs.Ends.{last_state}
+use Rattle.turn.proofs.Closing.{last_state}
 use Rattle.turn.proofs.turns.take_out.Goals as goal
 
 pub unreachable-requires : goal.unreachable-requires

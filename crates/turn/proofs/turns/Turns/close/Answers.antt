@@ -1,7 +1,7 @@
-use Rattle.std.proofs.Common.{◌≡◌, List, [], ◌∷◌, ◌++◌, map, ap, sym, subst, ◌∙◌}
+use Rattle.std.proofs.Common.{List, ◌++◌, map, ap, sym, subst, ◌∙◌}
 use Rattle.turn.specs.Passes.{Pass, HaveSeen, IsAllOf}
 use Rattle.turn.specs.TurnRule.{end_of_pass}
-use Rattle.turn.proofs.Ends.{of_passes}
+use Rattle.turn.proofs.Closing.{of_passes}
 use Rattle.turn.proofs.turns.Turns.close.Goals as goal
 
 known : (g : _) (c : goal.After-take_out g) → HaveSeen g.S.Kept.number_of c.args.passes.items (g.S.Kept.list c.take_out.result) × IsAllOf g.S.Kept.number_of c.args.passes.items (g.S.Kept.list c.take_out.result)

@@ -1,7 +1,7 @@
-use Rattle.std.proofs.Common.{rules, ◌≡◌, length, ap, sym, subst, arith}
+use Rattle.std.proofs.Common.{length, ap, sym, subst, arith}
 use Rattle.std.specs.Prelude.{All}
-use Rattle.turn.specs.Passes.{Pass, Lock, Belongs, fresh_passes}
-use Rattle.turn.proofs.Ends.{length-fresh_passes, fresh_belong}
+use Rattle.turn.specs.Passes.{Pass, Lock, Belongs}
+use Rattle.turn.proofs.Opening.{length-fresh_passes, fresh_belong}
 use Rattle.turn.proofs.turns.Turns.new.Goals as goal
 
 pub returns-clause-count : goal.returns-clause-count

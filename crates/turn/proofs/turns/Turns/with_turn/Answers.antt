@@ -1,4 +1,4 @@
-use Rattle.std.proofs.Common.{◌≡◌, List, subst, sym}
+use Rattle.std.proofs.Common.{List, subst, sym}
 use Rattle.turn.specs.Histories.{MayFind}
 use Rattle.turn.specs.Passes.{Pass}
 use Rattle.turn.proofs.turns.Turns.with_turn.Goals as goal
