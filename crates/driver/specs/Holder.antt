@@ -7,7 +7,10 @@ use Rattle.notebook.specs.declared.parts.Cell.{Cell}
 use Rattle.notebook.specs.declared.parts.Parts.{Parts}
 use Rattle.notebook.specs.Book.{cells, found}
 use Rattle.session_ops.specs.declared.entry.Op.TheVariants.{Delta}
+use Rattle.session_ops.specs.declared.entry.Reply.{Reply}
+use Rattle.session_ops.specs.declared.entry.Reply.TheVariants.{Accepted, Applied, Refused as RefusedFor}
 use Rattle.session_ops.specs.declared.entry.Entry.{Entry}
+use Rattle.driver.specs.Revisions.{raised}
 use Rattle.session_ops.specs.State.{State, Misfit, Past, Splits, state, revision, is_in, misfit}
 use Rattle.client_sync.specs.Client.{Client as Holder, held}
 use Rattle.client_sync.specs.declared.edit_error.EditError.{EditError}
@@ -59,3 +62,9 @@ IsOwnFault n cell d EditTooLong = ((c : Cell) × (found cell (cells n) ≡ Some 
 IsOwnFault n cell d (PastEnd len) = IsOwnMisfit n cell d (Past len)
 IsOwnFault n cell d (SplitsPair at) = IsOwnMisfit n cell d (Splits at)
 IsOwnFault n cell d OutOfMemory = Unit {0}
+
+-- the client whose edit of a cell was answered so
+abbrev pub confirmed_by : ℕ → Reply → Client → Client
+confirmed_by cell Accepted c = c
+confirmed_by cell (Applied rev x) c = record c { revs = raised cell rev c.revs }
+confirmed_by cell (RefusedFor why) c = c

@@ -4,5 +4,6 @@ pub mod Lines
 pub mod Player
 pub mod Revisions
 pub mod Session
+pub mod Standing
 pub mod Transcript
 pub mod Turns

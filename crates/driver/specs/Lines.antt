@@ -1,5 +1,5 @@
 -- The printed lines of a script, by a name's bytes.
-use Rattle.std.specs.Prelude.{ℕ, List, ◌++◌, codes}
+use Rattle.std.specs.Prelude.{ℕ, List, [], ◌++◌, codes}
 use Rattle.std.specs.Fmt.{decimal}
 use Rattle.session_ops.specs.State.{refusal_of, Past, Splits}
 use Rattle.session_ops.specs.declared.entry.Reply.{Reply}
@@ -25,10 +25,10 @@ sent_words name answer = name ++ (codes " sent: " ++ reply_text answer)
 abbrev pub sync_words : ℕ → List ℕ
 sync_words at = codes "sync at " ++ decimal at
 
--- what an edit's error prints; want of memory prints nothing
+-- what an edit's error prints; want of memory is never printed
 abbrev pub error_words : EditError → List ℕ
 error_words NoCell = codes "NoCell"
 error_words EditTooLong = codes "EditTooLong"
 error_words (PastEnd len) = refusal_text (refusal_of (Past len))
 error_words (SplitsPair at) = refusal_text (refusal_of (Splits at))
-error_words OutOfMemory = codes "OutOfMemory"
+error_words OutOfMemory = []

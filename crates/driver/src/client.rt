@@ -2,14 +2,11 @@
 ghost use Rattle.std.specs.Prelude.{◌≡◌, ◌≢◌, ℕ, ◌+◌, ◌∷◌, [], ◌++◌, List, IfOk, OnOk, OnErr, MatchResult, Some, None, true};
 ghost use Rattle.notebook.specs.declared.parts.Parts.{Parts};
 ghost use Rattle.session_ops.specs.declared.entry.Entry.{Entry};
-ghost use Rattle.session_ops.specs.declared.entry.Reply.TheVariants.{Applied};
 ghost use Rattle.session_ops.specs.State.{is_in, state};
-ghost use Rattle.delta.specs.declared.Step.{Step};
 ghost use Rattle.client_sync.specs.Client.{Client as Holder, Done, edited, joined_client};
 ghost use Rattle.client_sync.specs.Causes.{IsEditCause};
 ghost use Rattle.driver.specs.Session.{IsSession};
-ghost use Rattle.driver.specs.Holder.{Mirrors, IsOwnText, IsOwnFault};
-ghost use Rattle.driver.specs.Revisions.{raised};
+ghost use Rattle.driver.specs.Holder.{Mirrors, IsOwnText, IsOwnFault, confirmed_by};
 
 use crate::revisions::raise;
 use crate::session::Session;
@@ -17,6 +14,7 @@ use client_sync::EditError;
 use delta::{ApplyError, Delta};
 use notebook::{CellId, Notebook};
 use plain_list::Items;
+use session_ops::Reply;
 use std::alloc::{AllocError, Global};
 use std::mem;
 use transcript::rev_in;
@@ -100,11 +98,13 @@ impl Client {
         mem::replace(&mut self.posted, None)
     }
 
-    /// The client's own edit came back: the cell has the new revision.
-    pub(crate) fn confirm(&mut self, cell: CellId, rev: u64)
-        ensures { self.new ≡ record self.old { revs = raised cell rev self.old.revs } }
+    /// The answer to the client's own edit of a cell: where it was applied, the cell has its revision.
+    pub(crate) fn confirm(&mut self, cell: CellId, reply: &Reply)
+        ensures { self.new ≡ confirmed_by cell reply.now self.old }
     {
-        raise(&mut self.revs, cell, rev);
+        if let Reply::Applied { rev, .. } = reply {
+            raise(&mut self.revs, cell, *rev);
+        }
     }
 }
 

@@ -3,5 +3,6 @@
 
 mod client;
 mod lines;
+mod player;
 mod revisions;
 mod session;

@@ -1,5 +1,5 @@
 //! The printed lines of a script.
-ghost use Rattle.std.specs.Prelude.{◌≡◌, ◌++◌, ◌∷◌, [], OnOk, string_bytes, codes};
+ghost use Rattle.std.specs.Prelude.{◌≡◌, ◌≢◌, ◌++◌, ◌∷◌, [], OnOk, string_bytes, codes};
 ghost use Rattle.transcript.specs.Texts.{as_text};
 ghost use Rattle.driver.specs.Lines.{joined_words, not_joined_words, no_client_words, edit_words, sent_words, sync_words, error_words};
 
@@ -77,7 +77,8 @@ pub(crate) fn push_edit_refused(
     cell: u64,
     why: EditError,
 ) -> Result<(), AllocError>
-    ensures { OnOk result (string_bytes out.new ≡ string_bytes out.old ++ as_text (edit_words name.now cell (codes "refused " ++ error_words why) ∷ [])) }
+    ensures printed { OnOk result (string_bytes out.new ≡ string_bytes out.old ++ as_text (edit_words name.now cell (codes "refused " ++ error_words why) ∷ [])) }
+    ensures named { OnOk result (why ≢ EditError.OutOfMemory) }
 {
     push_edit_head(out, name, cell)?;
     push_plain(out, "refused ")?;
@@ -85,16 +86,18 @@ pub(crate) fn push_edit_refused(
     push_plain(out, "\n")
 }
 
-/// The name of an edit's error, with its number where it has one.
+/// The name of an edit's error, with its number where it has one. Want of memory has none, and is
+/// handed on.
 fn push_edit_error(out: &mut String, why: EditError) -> Result<(), AllocError>
-    ensures { OnOk result (string_bytes out.new ≡ string_bytes out.old ++ error_words why) }
+    ensures printed { OnOk result (string_bytes out.new ≡ string_bytes out.old ++ error_words why) }
+    ensures named { OnOk result (why ≢ EditError.OutOfMemory) }
 {
     match why {
         EditError::NoCell => push_plain(out, "NoCell"),
         EditError::EditTooLong => push_plain(out, "EditTooLong"),
         EditError::PastEnd { len } => push_refusal(out, &Refusal::PastEnd { len }),
         EditError::SplitsPair { at } => push_refusal(out, &Refusal::SplitsPair { at }),
-        EditError::OutOfMemory => push_plain(out, "OutOfMemory"),
+        EditError::OutOfMemory => Err(AllocError),
     }
 }
 

@@ -1,0 +1,119 @@
+-- Where the play of a script stands, and what a line makes of it.
+use Rattle.std.specs.Prelude.{◌≡◌, ◌≢◌, ℕ, codes, ◌+◌, Bool, true, false, List, [], ◌∷◌, ◌++◌, length, map, Option, Some, None, ◌⊎◌}
+use Rattle.session_ops.specs.declared.entry.Op.TheVariants.{Delta}
+use Rattle.session_ops.specs.declared.entry.Call.TheVariants.{Client as ByClient}
+use Rattle.session_ops.specs.declared.entry.Reply.TheVariants.{Applied}
+use Rattle.session_ops.specs.declared.entry.Entry.{Entry}
+use Rattle.session_ops.specs.State.{State, state, revision, entries_by}
+use Rattle.client_sync.specs.Client.{Client as Holder, Done, edited, received, joined_client}
+use Rattle.client_sync.specs.Causes.{IsEditCause}
+use Rattle.client_sync.specs.declared.edit_error.EditError.{EditError}
+use Rattle.client_sync.specs.declared.edit_error.EditError.TheVariants.{OutOfMemory}
+use Rattle.delta.specs.declared.Step.{Step}
+use Rattle.script.specs.declared.line.ScriptLine.{ScriptLine}
+use Rattle.script.specs.declared.line.ScriptLine.TheVariants.{Join, Edit, Sync, Show}
+use Rattle.script.specs.Play.{GoesOn, Begins}
+use Rattle.transcript.specs.Texts.{as_text}
+use Rattle.notebook.specs.declared.parts.Parts.{Parts}
+use Rattle.driver.specs.Lines.{sent_words, edit_words, error_words}
+use Rattle.driver.specs.Turns.{Turn, turns_from, AreMarks}
+use Rattle.driver.specs.Player.{Game, Stage, play_line, play}
+use Rattle.driver.specs.Headline.{AllOfRun, call_of}
+use Rattle.driver.specs.Session.{IsSession, HasAnswered, entry_of}
+use Rattle.driver.specs.Holder.{Mirrors}
+use Rattle.driver.specs.declared.session.Session.{Session}
+use Rattle.driver.specs.declared.client.Client.{Client}
+use Rattle.driver.specs.declared.client.Posted.{Posted}
+use Rattle.driver.specs.declared.player.Player.{Player}
+
+-- the client mirrors the only one of the stage, or there is none
+abbrev pub StandsFor : Parts → List Entry → Option Client → List Holder → Type 0
+StandsFor n0 h None cs = cs ≡ []
+StandsFor n0 h (Some c) cs = (m : Holder) × ((cs ≡ m ∷ []) × (Mirrors n0 h c m × (c.number ≡ 0)))
+
+-- the player stands where this stage does, and all turns are used
+pub record Stands (g : Game) (p : Player) (s : Stage) : Type 0 where
+  pub session : IsSession g.opening p.session
+  pub used : s.turns ≡ []
+  pub marks : AreMarks 0 p.marks (length p.session.history)
+  pub run : AllOfRun 0 p.session.history
+  pub asked : s.asked ≡ map call_of (entries_by p.session.history 0)
+  pub clients : StandsFor g.opening p.session.history p.client s.clients
+
+-- lines that a player with its client can go on with; without a client the first one joins
+abbrev pub MayPlay : Option Client → Bool → List ScriptLine → Type 0
+MayPlay None edited lines = (lines ≡ []) ⊎ Begins lines
+MayPlay (Some c) edited lines = GoesOn edited lines
+
+-- where no edit waits for a sync, nothing is posted
+abbrev pub Waits : Bool → Option Client → Type 0
+Waits true c = Unit {0}
+Waits false None = Unit {0}
+Waits false (Some c) = c.posted ≡ None
+
+-- whether an edit waits after a line
+abbrev pub after_line : ScriptLine → Bool → Bool
+after_line (Join n) edited = false
+after_line (Edit n cell d) edited = true
+after_line Sync edited = false
+after_line (Show n) edited = edited
+
+-- the line was played: it used up just the turns that came with it, and printed just its piece
+pub record HasPlayed (g : Game) (line : ScriptLine) (old new : Player) (s : Stage) (before after : List ℕ) : Type 0 where
+  pub stage : Stage
+  pub more : List Turn
+  pub grown : turns_from [] new.session.history new.marks ≡ turns_from [] old.session.history old.marks ++ more
+  pub played : play_line g line (record s { turns = more }) ≡ Some stage
+  pub stands : Stands g new stage
+  pub piece : List ℕ
+  pub printed : after ≡ before ++ piece
+  pub said : stage.said ≡ s.said ++ piece
+
+-- the client made the edit its own
+pub record IsEdited (n0 : Parts) (h : List Entry) (name : List ℕ) (cell : ℕ) (d : List Step) (c c' : Client) (m : Holder) (before after : List ℕ) : Type 0 where
+  pub held_then : Holder
+  pub done : edited n0 m cell d ≡ Done held_then
+  pub mirrors : Mirrors n0 h c' held_then
+  pub number : c'.number ≡ c.number
+  pub printed : after ≡ before ++ as_text (edit_words name cell (codes "ok") ∷ [])
+
+-- the client refused the edit
+pub record IsUnedited (n0 : Parts) (name : List ℕ) (cell : ℕ) (d : List Step) (c c' : Client) (m : Holder) (before after : List ℕ) : Type 0 where
+  pub why : EditError
+  pub named : why ≢ OutOfMemory
+  pub cause : IsEditCause (edited n0 m cell d) why
+  pub same : c' ≡ c
+  pub printed : after ≡ before ++ as_text (edit_words name cell (codes "refused " ++ error_words why) ∷ [])
+
+-- the client made the edit its own, or refused it and stays as it was
+abbrev pub HasEdited : Parts → List Entry → List ℕ → ℕ → List Step → Client → Client → Holder → List ℕ → List ℕ → Type 0
+HasEdited n0 h name cell d c c' m before after = IsEdited n0 h name cell d c c' m before after ⊎ IsUnedited n0 name cell d c c' m before after
+
+-- the client with an edit posted
+abbrev pub with_posted : Client → Posted → Client
+with_posted c p = record c { posted = Some p }
+
+-- what was posted was applied as it is, and came back
+pub record HasSent (n0 : Parts) (name : List ℕ) (p : Posted) (old new : Session) (c c' : Client) (m : Holder) (before after : List ℕ) : Type 0 where
+  pub rev : ℕ
+  pub answered : HasAnswered n0 0 (ByClient c.number (Delta p.cell p.base p.delta)) old new (Applied rev p.delta)
+  pub came : received n0 (record m { outbox = [] }) (entry_of 0 (ByClient c.number (Delta p.cell p.base p.delta)) (Applied rev p.delta) ∷ []) ≡ joined_client c.number new.history
+  pub mirrors : Mirrors n0 new.history c' (joined_client c.number new.history)
+  pub number : c'.number ≡ c.number
+  pub printed : after ≡ before ++ as_text (sent_words name (Applied rev p.delta) ∷ [])
+
+-- nothing was posted and nothing happened
+pub record HasStayed (old new : Session) (c c' : Client) (before after : List ℕ) : Type 0 where
+  pub session : new ≡ old
+  pub client : c' ≡ c
+  pub printed : after ≡ before
+
+abbrev pub HasExchanged : Option Posted → Parts → List ℕ → Session → Session → Client → Client → Holder → List ℕ → List ℕ → Type 0
+HasExchanged None n0 name old new c c' m before after = HasStayed old new c c' before after
+HasExchanged (Some p) n0 name old new c c' m before after = HasSent n0 name p old new c c' m before after
+
+-- the same for a client that there may not be: whatever it mirrors, nothing is posted afterwards
+abbrev pub HasExchangedAny : Option Client → Option Client → Parts → List ℕ → Session → Session → List ℕ → List ℕ → Type 0
+HasExchangedAny None now n0 name old new before after = (now ≡ None) × ((new ≡ old) × (after ≡ before))
+HasExchangedAny (Some c) now n0 name old new before after =
+    (c' : Client) × ((now ≡ Some c') × ((m : Holder) → Mirrors n0 old.history c m → HasExchanged c.posted n0 name old new c c' m before after))

@@ -1,0 +1,198 @@
+//! The player: it plays the lines of a script over the session and the client, and prints.
+ghost use Rattle.std.specs.Prelude.{◌≡◌, ℕ, ◌∷◌, [], ◌++◌, OnOk, IfOk, None, List, length, string_bytes, false};
+ghost use Rattle.notebook.specs.declared.parts.Parts.{Parts};
+ghost use Rattle.session_ops.specs.declared.entry.Entry.{Entry};
+ghost use Rattle.client_sync.specs.Client.{Client as Holder};
+ghost use Rattle.script.specs.declared.line.ScriptLine.TheVariants.{Join, Edit, Sync, Show};
+ghost use Rattle.driver.specs.Player.{Game, Stage, name_of};
+ghost use Rattle.driver.specs.Session.{IsSession};
+ghost use Rattle.driver.specs.Holder.{Mirrors};
+ghost use Rattle.driver.specs.Standing.{Stands, Waits, HasPlayed, HasEdited, HasSent, HasExchanged, HasExchangedAny, with_posted};
+
+use crate::client::{Client, Posted};
+use crate::lines::{
+    push_edit_refused, push_edited, push_joined, push_no_client, push_not_joined, push_sent,
+    push_sync,
+};
+use crate::session::Session;
+use delta::Delta;
+use notebook::{CellId, Notebook};
+use plain_list::Items;
+use session_ops::Reply;
+use std::alloc::{AllocError, Global};
+use transcript::push_book;
+
+/// The session, its one client once it has joined, and the marks: for each turn that made no entry,
+/// the history's length that it found.
+#[derive(Drop)]
+pub(crate) struct Player {
+    pub(crate) session: Session,
+    pub(crate) client: Option<Client>,
+    pub(crate) marks: Items<u64>,
+}
+
+impl Player {
+    /// A player before the first line.
+    pub(crate) fn new(alloc: Global, book: Notebook) -> Result<Player, AllocError>
+        ensures { IfOk result (λ p. IsSession book p.session × ((p.session.history ≡ []) × ((p.client ≡ None) × (p.marks ≡ [])))) }
+    {
+        Ok(Player {
+            session: Session::new(alloc, book)?,
+            client: None,
+            marks: Items::new(alloc),
+        })
+    }
+
+    /// `join NAME`.
+    pub(crate) fn join(
+        &mut self,
+        name: &str,
+        client: u32,
+        out: &mut String,
+    ) -> Result<(), AllocError>
+        ensures played { (g : Game) → (s : Stage) → name.now ≡ name_of g client → Stands g self.old s → self.old.client ≡ None → client ≡ 0 → OnOk result (HasPlayed g (Join client) self.old self.new s (string_bytes out.old) (string_bytes out.new)) }
+        ensures waits { OnOk result (self.old.client ≡ None → Waits false self.new.client) }
+    {
+        let reply = self.session.join(0, client)?;
+        match reply {
+            Reply::Accepted => {
+                let own = Client::join(&self.session, client)?;
+                self.client = Some(own);
+                push_joined(out, name, self.session.history.len() as u64)?;
+            }
+            other => push_not_joined(out, name, &other)?,
+        }
+        Ok(())
+    }
+
+    /// `edit NAME CELL DELTA`.
+    pub(crate) fn edit(
+        &mut self,
+        name: &str,
+        client: u32,
+        cell: CellId,
+        delta: &Delta,
+        out: &mut String,
+    ) -> Result<(), AllocError>
+        ensures played { (g : Game) → (s : Stage) → name.now ≡ name_of g client → Stands g self.old s → Waits false self.old.client → client ≡ 0 → OnOk result (HasPlayed g (Edit client cell delta.now) self.old self.new s (string_bytes out.old) (string_bytes out.new)) }
+    {
+        match &mut self.client {
+            None => push_no_client(out, name, "edit")?,
+            Some(own) => edit_own(own, name, cell, delta, out)?,
+        }
+        Ok(())
+    }
+
+    /// `sync`.
+    pub(crate) fn sync(&mut self, name: &str, out: &mut String) -> Result<(), AllocError>
+        ensures played { (g : Game) → (s : Stage) → name.now ≡ name_of g 0 → Stands g self.old s → OnOk result (HasPlayed g Sync self.old self.new s (string_bytes out.old) (string_bytes out.new)) }
+        ensures waits { OnOk result (Waits false self.new.client) }
+    {
+        exchange_any(&mut self.session, &mut self.client, name, out)?;
+        let at = self.look()?;
+        push_sync(out, at)?;
+        Ok(())
+    }
+
+    /// A turn that makes no entry: it leaves a mark, which is the history's length.
+    pub(crate) fn look(&mut self) -> Result<u64, AllocError>
+        ensures { IfOk result (λ at. (at ≡ length self.old.session.history) × (self.new ≡ record self.old { marks = self.old.marks ++ at ∷ [] })) }
+    {
+        let at = self.session.history.len() as u64;
+        self.marks.push(at)?;
+        Ok(at)
+    }
+
+    /// `show NAME`.
+    pub(crate) fn show(
+        &mut self,
+        name: &str,
+        client: u32,
+        out: &mut String,
+    ) -> Result<(), AllocError>
+        ensures played { (g : Game) → (s : Stage) → name.now ≡ name_of g client → Stands g self.old s → client ≡ 0 → OnOk result (HasPlayed g (Show client) self.old self.new s (string_bytes out.old) (string_bytes out.new)) }
+        ensures same { self.new ≡ self.old }
+    {
+        match &self.client {
+            None => push_no_client(out, name, "show")?,
+            Some(own) => push_book(out, &own.book, own.revs.as_slice())?,
+        }
+        Ok(())
+    }
+}
+
+/// An edit of the client's own notebook, and what is printed of it.
+fn edit_own(
+    own: &mut Client,
+    name: &str,
+    cell: CellId,
+    delta: &Delta,
+    out: &mut String,
+) -> Result<(), AllocError>
+    ensures { (n0 : Parts) → (h : List Entry) → (m : Holder) → Mirrors n0 h own.old m → own.old.posted ≡ None → OnOk result (HasEdited n0 h name.now cell delta.now own.old own.new m (string_bytes out.old) (string_bytes out.new)) }
+{
+    match own.edit(cell, delta) {
+        Ok(()) => push_edited(out, name, cell)?,
+        Err(why) => push_edit_refused(out, name, cell, why)?,
+    }
+    Ok(())
+}
+
+/// What the client has posted, if there is a client, goes to the server and comes back.
+fn exchange_any(
+    session: &mut Session,
+    client: &mut Option<Client>,
+    name: &str,
+    out: &mut String,
+) -> Result<(), AllocError>
+    ensures exchanged { (n0 : Parts) → IsSession n0 session.old → OnOk result (HasExchangedAny client.old client.new n0 name.now session.old session.new (string_bytes out.old) (string_bytes out.new)) }
+    ensures nothing { OnOk result (Waits false client.new) }
+{
+    match client {
+        None => {}
+        Some(own) => exchange(session, own, name, out)?,
+    }
+    Ok(())
+}
+
+/// What the client has posted goes to the server and comes back.
+fn exchange(
+    session: &mut Session,
+    own: &mut Client,
+    name: &str,
+    out: &mut String,
+) -> Result<(), AllocError>
+    ensures exchanged { (n0 : Parts) → (m : Holder) → IsSession n0 session.old → Mirrors n0 session.old.history own.old m → OnOk result (HasExchanged own.old.posted n0 name.now session.old session.new own.old own.new m (string_bytes out.old) (string_bytes out.new)) }
+    ensures nothing { OnOk result (own.new.posted ≡ None) }
+{
+    match own.take_posted() {
+        None => Ok(()),
+        Some(posted) => {
+            send(session, own, name, posted, out)?;
+            Ok(())
+        }
+    }
+}
+
+/// Sends what the client had posted.
+fn send(
+    session: &mut Session,
+    own: &mut Client,
+    name: &str,
+    posted: Posted,
+    out: &mut String,
+) -> Result<(), AllocError>
+    ensures sent { (n0 : Parts) → (m : Holder) → own.old.posted ≡ None → IsSession n0 session.old → Mirrors n0 session.old.history (with_posted own.old posted) m → OnOk result (HasSent n0 name.now posted session.old session.new (with_posted own.old posted) own.new m (string_bytes out.old) (string_bytes out.new)) }
+    ensures nothing { own.new.posted ≡ own.old.posted }
+{
+    let cell = posted.cell;
+    let Posted {
+        cell: _,
+        base,
+        delta,
+    } = posted;
+    let reply = session.change(0, own.number, cell, base, delta)?;
+    own.confirm(cell, &reply);
+    push_sent(out, name, &reply)?;
+    Ok(())
+}
