@@ -1,1 +1,7 @@
+mod Building
+mod Fronts
+mod Loop
+pub mod Numbering
+mod Steps
+mod Trims
 mod Worked

@@ -4,6 +4,7 @@
 //! (`specs/Reads.antt`) or says why there is none, each cause exactly where it holds.
 #![tactic(auto)]
 
+mod build;
 mod items;
 mod kinds;
 mod types;
