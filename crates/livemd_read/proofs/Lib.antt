@@ -4,4 +4,5 @@ mod Loop
 pub mod Numbering
 mod Steps
 mod Trims
+mod Unbuilt
 mod Worked

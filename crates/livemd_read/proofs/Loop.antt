@@ -48,7 +48,7 @@ std_lines text = parts_same (slice_split is_lf text)
 abbrev pub texts : List (Bor (List ℕ)) → List (List ℕ)
 texts ls = map (λ l. l.now) ls
 
-texts-push : (xs : List (Bor (List ℕ))) (x : Bor (List ℕ)) → texts (xs ++ x ∷ []) ≡ texts xs ++ x.now ∷ []
+pub texts-push : (xs : List (Bor (List ℕ))) (x : Bor (List ℕ)) → texts (xs ++ x ∷ []) ≡ texts xs ++ x.now ∷ []
 texts-push [] x = refl
 texts-push (y ∷ xs) x = ap (λ w. y.now ∷ w) (texts-push xs x)
 

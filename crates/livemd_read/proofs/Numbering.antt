@@ -12,10 +12,10 @@ use Rattle.notebook.specs.declared.parts.Parts.{Parts}
 use Rattle.notebook.specs.declared.parts.Kind.{Kind}
 use Rattle.notebook.specs.declared.parts.Kind.TheVariants as cell
 use Rattle.notebook.specs.Book.{cells_of, section_cells, untitled, empty_setup}
-use Rattle.notebook.specs.Rules.{IsNotebook, cell_number, section_number, AreDistinct, IsSectionKind, IsSectionCell, IsBelow, IsParentAmong, ParentsStand, numbered_cells}
+use Rattle.notebook.specs.Rules.{IsNotebook, cell_number, section_number, AreDistinct, IsSectionKind, IsSectionCell, IsBelow, IsParentAmong, ParentsStand, numbered_cells, code_count, code_weight}
 use Rattle.livemd_read.specs.Lines.{is_empty}
 use Rattle.livemd_read.specs.Items as item
-use Rattle.livemd_read.specs.Book.{with_section, with_some_section, with_last_cell, with_cell, with_item, book_of}
+use Rattle.livemd_read.specs.Book.{with_section, with_some_section, with_last_cell, with_cell, with_item, book_of, notices_of}
 use Rattle.livemd_read.specs.Reads.{HasFewSections, HasFewCells}
 use Rattle.livemd_read.proofs.Building.{cells-with_last_cell, length-with_last_cell, some_length, cell_count-section, cell_count-markdown, sections-section, sections-markdown}
 
@@ -195,3 +195,19 @@ sections-front is js = rw fold-append (sections-fold (book_of is) js)
 
 pub cells-front : (is js : List item.Item) → length (section_cells (book_of is)) ≤ length (section_cells (book_of (is ++ js)))
 cells-front is js = rw fold-append (cells-fold (book_of is) js)
+
+-- Markdown cells aren't code
+no_code : (cs : List Cell) → AllByRecursion IsMarkdown cs → code_count cs ≡ 0
+no_code [] h = refl
+no_code (c ∷ cs) h = ap (λ k. code_weight k + code_count cs) h.0 ∙ ap (λ n. 0 + n) (no_code cs h.1)
+
+pub few_cells : (is : List item.Item) → length (section_cells (book_of is)) ≤ 4000 → HasFewCells (book_of is)
+few_cells is few = record { cells = few; code_cells = omega (arith, no_code (section_cells (book_of is)) (IsDraft-book_of is).kinds) }
+
+-- no item gives a notice
+pub notices_of-none : (is : List item.Item) → notices_of is ≡ []
+notices_of-none [] = refl
+notices_of-none (item.Name t ∷ is) = notices_of-none is
+notices_of-none (item.Section t ∷ is) = notices_of-none is
+notices_of-none (item.Markdown t ∷ is) = notices_of-none is
+notices_of-none (item.Blank ∷ is) = notices_of-none is

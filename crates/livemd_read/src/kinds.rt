@@ -1,7 +1,7 @@
 //! What the reader sees in a line.
 ghost use Rattle.std.specs.Prelude.{◌≡◌};
-ghost use Rattle.livemd_read.specs.Lines.{drop_end, drop_front, is_blank, is_cr, is_space};
-ghost use Rattle.livemd_read.specs.Kinds.{begins, is_unbuilt};
+ghost use Rattle.livemd_read.specs.Lines.{drop_end, drop_front, is_blank, is_cr, is_space, lines};
+ghost use Rattle.livemd_read.specs.Kinds.{begins, is_unbuilt, first_unbuilt};
 ghost use Rattle.livemd_read.specs.Seen.{IsSeen};
 
 /// What a line is to the reader; of a heading, the name.
@@ -62,4 +62,18 @@ pub fn see(line: &str) -> Seen<'_>
         return Seen::Heading2(trim_spaces(name));
     }
     Seen::Plain
+}
+
+/// The number, from 1, of the first line that begins a fence or a metadata line.
+pub fn first_unbuilt_line(text: &str) -> Option<u64>
+    ensures { result ≡ first_unbuilt 1 (lines text.now) }
+{
+    let mut number: u64 = 1;
+    for line in text.lines() {
+        if begins_unbuilt(without_crs(line)) {
+            return Some(number);
+        }
+        number += 1;
+    }
+    None
 }

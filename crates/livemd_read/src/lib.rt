@@ -7,6 +7,8 @@
 mod build;
 mod items;
 mod kinds;
+mod reader;
 mod types;
 
+pub use reader::read;
 pub use types::{BookError, Notice, NoticeKind, Read};
