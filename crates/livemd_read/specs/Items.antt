@@ -1,9 +1,8 @@
 -- The items of a book: one after the other is cut from the front of its lines.
-use Rattle.std.specs.Prelude.{ℕ, zero, suc, ◌&&◌, not, Bool, true, false, if◌then◌else◌, List, [], ◌∷◌, ◌++◌, length, map, drop}
-use Rattle.livemd_read.specs.declared.kinds.Kind.{Kind}
-use Rattle.livemd_read.specs.declared.kinds.Kind.TheVariants.{Heading1, Heading2, Plain}
+use Rattle.std.specs.Prelude.{ℕ, zero, suc, Bool, true, false, if◌then◌else◌, List, [], ◌∷◌, ◌++◌, length, map, drop}
+use Rattle.std.specs.List.{list_all}
 use Rattle.livemd_read.specs.Lines.{drop_end, drop_front, front_of, is_blank, is_space, joined}
-use Rattle.livemd_read.specs.Kinds.{Line}
+use Rattle.livemd_read.specs.Kinds.{Kind, Heading1, Heading2, Plain, Line}
 
 -- the name, a section with its name, a Markdown cell with its source, a blank stretch
 pub data Item : Type 0 where
@@ -23,10 +22,9 @@ is_blank_item (Section t) = false
 is_blank_item (Markdown t) = false
 is_blank_item Blank = true
 
--- whether the next line that isn't blank is the first of its kind, so that a heading 1 is the name
+-- whether only blank lines were cut, so that a heading 1 is the name
 abbrev pub at_name : List Item → Bool
-at_name [] = true
-at_name (item ∷ done) = is_blank_item item && at_name done
+at_name done = list_all is_blank_item done
 
 -- what stands behind a heading's mark, without outer spaces
 abbrev pub heading : ℕ → List ℕ → List ℕ

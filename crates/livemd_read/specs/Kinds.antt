@@ -1,8 +1,12 @@
 -- What a line is.
 use Rattle.std.specs.Prelude.{ℕ, nat_eq, suc, Bool, if◌then◌else◌, ◌||◌, Option, Some, None, List, [], ◌∷◌, codes}
 use Rattle.std.specs.List.{starts_with}
-use Rattle.livemd_read.specs.declared.kinds.Kind.{Kind}
-use Rattle.livemd_read.specs.declared.kinds.Kind.TheVariants.{Heading1, Heading2, Plain}
+
+-- what a line is
+pub data Kind : Type 0 where
+  Heading1 : Kind
+  Heading2 : Kind
+  Plain : Kind
 
 -- a line with its kind
 pub record Line : Type 0 where
@@ -17,10 +21,14 @@ begins front line = starts_with nat_eq line front
 abbrev pub kind_of : List ℕ → Kind
 kind_of line = if begins (codes "# ") line then Heading1 else (if begins (codes "## ") line then Heading2 else Plain)
 
+-- a line as the rules see it
+abbrev pub kinded : List ℕ → Line
+kinded line = record { kind = kind_of line; text = line }
+
 -- the lines with their kinds
 abbrev pub kinds_of : List (List ℕ) → List Line
 kinds_of [] = []
-kinds_of (l ∷ ls) = record { kind = kind_of l; text = l } ∷ kinds_of ls
+kinds_of (l ∷ ls) = kinded l ∷ kinds_of ls
 
 -- a line of a form that isn't built yet: it begins a fence or a metadata line
 abbrev pub is_unbuilt : List ℕ → Bool

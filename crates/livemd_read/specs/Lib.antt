@@ -3,3 +3,5 @@ pub mod Items
 pub mod Kinds
 pub mod Lines
 pub mod Reads
+pub mod Seen
+pub mod Resume

@@ -4,8 +4,11 @@
 //! (`specs/Reads.antt`) or says why there is none, each cause exactly where it holds.
 #![tactic(auto)]
 
+mod build;
 mod items;
 mod kinds;
+mod reader;
 mod types;
 
+pub use reader::read;
 pub use types::{BookError, Notice, NoticeKind, Read};

@@ -1,4 +1,7 @@
 //! What reading a book gives.
+ghost use Rattle.std.specs.Prelude.{◌≡◌};
+ghost use Rattle.livemd_read.specs.declared.types.BookError.TheVariants.{OutOfMemory};
+
 use notebook::Notebook;
 use plain_list::Items;
 use std::alloc::AllocError;
@@ -56,6 +59,8 @@ pub enum BookError {
 }
 
 impl From<AllocError> for BookError {
+    ghost from_gives = { λ _ e. e ≡ OutOfMemory };
+
     fn from(_: AllocError) -> BookError {
         BookError::OutOfMemory
     }

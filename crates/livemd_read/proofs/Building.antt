@@ -1,0 +1,128 @@
+-- The notebook that items give: how it grows, and that it keeps the rules.
+use Rattle.std.proofs.Common.{◌≡◌, ℕ, ◌+◌, ◌-◌, ◌<◌, ◌≤◌, max, zero, suc, Bool, true, false, cond, List, [], ◌∷◌, ◌++◌, Option, None, Some, length, take, get_or, set, map, refl, sym, ap, ◌∙◌, arith, subst, append_assoc, length-append, codes}
+use Rattle.std.specs.Prelude.{slice_get, slice_set, Contains}
+use Rattle.std.specs.List.{fold, flat_map, AllByRecursion}
+use Rattle.std.specs.Str.{chars}
+use Rattle.std.proofs.lemmas.Grind.{flat_map-append}
+use Rattle.std.proofs.lemmas.List.{append-nil, map-append, take_more}
+use Rattle.std.proofs.lemmas.Option.{get_or_from_slice_get}
+use Rattle.notebook.specs.declared.parts.Cell.{Cell}
+use Rattle.notebook.specs.declared.parts.Saved.{Saved}
+use Rattle.notebook.specs.declared.parts.Section.{Section}
+use Rattle.notebook.specs.declared.parts.Parts.{Parts}
+use Rattle.notebook.specs.declared.parts.Kind.{Kind}
+use Rattle.notebook.specs.declared.parts.Kind.TheVariants as cell
+use Rattle.notebook.specs.Book.{cells_of, section_cells, untitled, empty_setup}
+use Rattle.notebook.specs.Rules.{IsNotebook, cell_number, section_number, AreDistinct, IsSectionKind, IsSectionCell, IsBelow, IsParentAmong, ParentsStand, code_count, code_weight, numbered_cells}
+use Rattle.livemd_read.specs.declared.items.Item.{Item}
+use Rattle.livemd_read.specs.Lines.{is_empty}
+use Rattle.livemd_read.specs.Items as item
+use Rattle.livemd_read.specs.Book.{with_section, with_some_section, with_last_cell, with_cell, with_item, book_of}
+use Rattle.livemd_read.specs.Reads.{HasFewSections, HasFewCells}
+use Rattle.livemd_read.specs.Resume.{item_of, views}
+
+-- one item more
+fold-more : (n : Parts) (is : List item.Item) (i : item.Item) → fold with_item n (is ++ i ∷ []) ≡ with_item (fold with_item n is) i
+fold-more n [] i = refl
+fold-more n (j ∷ is) i = fold-more (with_item n j) is i
+
+pub book_of-more : (is : List item.Item) (i : item.Item) → book_of (is ++ i ∷ []) ≡ with_item (book_of is) i
+book_of-more is i = fold-more untitled is i
+
+pub views-more : (xs : List Item) (i : ℕ) (x : Item) → i < length xs → x ≡ get_or xs i x → views (take (i + 1) xs) ≡ views (take i xs) ++ item_of x ∷ []
+views-more xs i x within at =
+    ap views (take_more xs i x within ∙ ap (λ y. take i xs ++ y ∷ []) (sym at)) ∙ map-append item_of (take i xs) (x ∷ [])
+
+-- one cell more in the last section
+pub length-with_last_cell : (c : Cell) (ss : List Section) → length (with_last_cell c ss) ≡ length ss
+length-with_last_cell c [] = refl
+length-with_last_cell c (s ∷ []) = refl
+length-with_last_cell c (s ∷ t ∷ ss) = ap (λ n. suc n) (length-with_last_cell c (t ∷ ss))
+
+pub cells-with_last_cell : (c : Cell) (ss : List Section) → 0 < length ss → flat_map cells_of (with_last_cell c ss) ≡ flat_map cells_of ss ++ c ∷ []
+cells-with_last_cell c [] h = absurd (omega arith)
+cells-with_last_cell c (s ∷ []) h = append-nil (s.cells ++ c ∷ []) ∙ ap (λ cs. cs ++ c ∷ []) (sym (append-nil s.cells))
+cells-with_last_cell c (s ∷ t ∷ ss) h =
+    ap (λ cs. s.cells ++ cs) (cells-with_last_cell c (t ∷ ss) (omega arith)) ∙ sym (append_assoc s.cells (flat_map cells_of (t ∷ ss)) (c ∷ []))
+
+-- the last section written, as the code does it
+set_last : (c : Cell) (ss : List Section) (d : Section) → 0 < length ss → set ss (length ss - 1) (record (get_or ss (length ss - 1) d) { cells = (get_or ss (length ss - 1) d).cells ++ c ∷ [] }) ≡ with_last_cell c ss
+set_last c [] d h = absurd (omega arith)
+set_last c (s ∷ []) d h = refl
+set_last c (s ∷ t ∷ ss) d h =
+    let e : length (s ∷ t ∷ ss) - 1 ≡ suc (length (t ∷ ss) - 1) = omega arith in
+    ap (λ k. set (s ∷ t ∷ ss) k (record (get_or (s ∷ t ∷ ss) k d) { cells = (get_or (s ∷ t ∷ ss) k d).cells ++ c ∷ [] })) e ∙ ap (λ us. s ∷ us) (set_last c (t ∷ ss) d (omega arith))
+
+pub last_written : (c : Cell) (ss : List Section) (s : Section) → 0 < length ss → slice_get ss (length ss - 1) ≡ Some s → slice_set ss (length ss - 1) (record s { cells = s.cells ++ c ∷ [] }) ≡ with_last_cell c ss
+last_written c ss s h at =
+    let is : get_or ss (length ss - 1) s ≡ s = get_or_from_slice_get ss (length ss - 1) s s at in
+    ap (λ (t : Section). set ss (length ss - 1) (record t { cells = t.cells ++ c ∷ [] })) (sym is) ∙ set_last c ss s h
+
+-- a section where there is none
+pub some_section : (n : Parts) → is_empty n.sections ≡ true → with_some_section n ≡ with_section (codes "Section") n
+some_section n e = ap (λ (b : Bool). cond b (with_section (codes "Section") n) n) e
+
+pub same_sections : (n : Parts) → is_empty n.sections ≡ false → with_some_section n ≡ n
+same_sections n e = ap (λ (b : Bool). cond b (with_section (codes "Section") n) n) e
+
+length-some : (n : Parts) → length (with_some_section n).sections ≡ max (length n.sections) 1
+length-some n = at n.sections refl where
+  at : (ss : List Section) → n.sections ≡ ss → length (with_some_section n).sections ≡ max (length n.sections) 1
+  at [] e = ap (λ (m : Parts). length m.sections) (some_section n (ap is_empty e)) ∙ rw e refl
+  at (s ∷ ss) e = ap (λ (m : Parts). length m.sections) (same_sections n (ap is_empty e)) ∙ rw e (omega arith)
+
+pub some_length : (n : Parts) → 0 < length (with_some_section n).sections
+some_length n = rw length-some (omega arith)
+
+cells-some : (n : Parts) → section_cells (with_some_section n) ≡ section_cells n
+cells-some n = at n.sections refl where
+  at : (ss : List Section) → n.sections ≡ ss → section_cells (with_some_section n) ≡ section_cells n
+  at [] e = ap section_cells (some_section n (ap is_empty e)) ∙ (flat_map-append cells_of n.sections _ ∙ append-nil (section_cells n))
+  at (s ∷ ss) e = ap section_cells (same_sections n (ap is_empty e))
+
+-- how the numbers of sections and of cells grow
+pub sections-section : (n : Parts) (t : List ℕ) → length (with_item n (item.Section t)).sections ≡ length n.sections + 1
+sections-section n t = length-append n.sections _
+
+pub sections-markdown : (n : Parts) (t : List ℕ) → length (with_item n (item.Markdown t)).sections ≡ max (length n.sections) 1
+sections-markdown n t = length-with_last_cell _ (with_some_section n).sections ∙ length-some n
+
+cells-section : (n : Parts) (t : List ℕ) → section_cells (with_item n (item.Section t)) ≡ section_cells n
+cells-section n t = flat_map-append cells_of n.sections _ ∙ append-nil (section_cells n)
+
+-- the cell that Markdown text adds
+abbrev new_cell : Parts → List ℕ → Cell
+new_cell n t = record { id = n.next_cell; kind = cell.Markdown; source = chars t; before = []; saved = [] }
+
+next_cell-some : (n : Parts) → (with_some_section n).next_cell ≡ n.next_cell
+next_cell-some n = elim (is_empty n.sections) as (λ b. (cond b (with_section (codes "Section") n) n).next_cell ≡ n.next_cell) [ true ↦ refl | false ↦ refl ]
+
+cells-markdown : (n : Parts) (t : List ℕ) → section_cells (with_item n (item.Markdown t)) ≡ section_cells n ++ new_cell n t ∷ []
+cells-markdown n t =
+    cells-with_last_cell (new_cell (with_some_section n) t) (with_some_section n).sections (some_length n)
+    ∙ (ap (λ cs. cs ++ new_cell (with_some_section n) t ∷ []) (cells-some n)
+    ∙ ap (λ k. section_cells n ++ record { id = k; kind = cell.Markdown; source = chars t; before = []; saved = [] } ∷ []) (next_cell-some n))
+
+pub cell_count-section : (n : Parts) (t : List ℕ) → length (section_cells (with_item n (item.Section t))) ≡ length (section_cells n)
+cell_count-section n t = ap length (cells-section n t)
+
+pub cell_count-markdown : (n : Parts) (t : List ℕ) → length (section_cells (with_item n (item.Markdown t))) ≡ length (section_cells n) + 1
+cell_count-markdown n t = ap length (cells-markdown n t) ∙ length-append (section_cells n) _
+
+-- the section that is made where there is none
+pub made_section : (n m : Parts) → n.sections ≡ [] → m ≡ with_section (chars (codes "Section")) n → m ≡ with_some_section n
+unfolding chars
+made_section n m e h = h ∙ sym (some_section n (ap is_empty e))
+
+-- a cell pushed to the last section, as the code does it
+pub cell_pushed : (n : Parts) (s : Section) (cs : List Cell) (many : ℕ) (t source : List ℕ) (before : List (List ℕ)) (saved : List Saved) → 0 < length n.sections → many ≡ length n.sections → slice_get n.sections (many - 1) ≡ Some s → source ≡ chars t → before ≡ [] → saved ≡ []
+    → cs ≡ s.cells ++ record { id = n.next_cell; kind = cell.Markdown; source = source; before = before; saved = saved } ∷ []
+    → record n { sections = slice_set n.sections (many - 1) (record s { cells = cs }); next_cell = n.next_cell + 1 } ≡ with_cell cell.Markdown (chars t) n
+cell_pushed n s cs many t source before saved some count at e b v more =
+    let there : slice_get n.sections (length n.sections - 1) ≡ Some s = rw count at at in
+    let c : Cell = record { id = n.next_cell; kind = cell.Markdown; source = chars t; before = []; saved = [] } in
+    let cells : cs ≡ s.cells ++ c ∷ [] = more ∙ rw (e, b, v) refl in
+    let sections : slice_set n.sections (many - 1) (record s { cells = cs }) ≡ with_last_cell c n.sections =
+    ap (λ k. slice_set n.sections (k - 1) (record s { cells = cs })) count
+    ∙ (ap (λ ds. slice_set n.sections (length n.sections - 1) (record s { cells = ds })) cells ∙ last_written c n.sections s some there) in
+    ap (λ ss. record n { sections = ss; next_cell = n.next_cell + 1 }) sections
