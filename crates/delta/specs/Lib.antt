@@ -1,9 +1,14 @@
 pub mod Apply
 pub mod Canonical
 pub mod Compose
+pub mod Fronts
 pub mod Moves
 pub mod Pack
+pub mod Packers
+pub mod Runs
+pub mod Sides
 pub mod Spread
 pub mod Steps
 pub mod Transform
+pub mod Turns
 pub mod Walk

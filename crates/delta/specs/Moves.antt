@@ -1,8 +1,8 @@
 -- What deltas do to texts and to one another.
-use Rattle.std.specs.Prelude.{◌≡◌, ◌≤◌, ℕ, Bool, false, List, [], ◌∷◌, None}
+use Rattle.std.specs.Prelude.{◌≡◌, ◌+◌, ◌^◌, ◌≤◌, ℕ, Bool, false, List, [], ◌∷◌, None}
 use Rattle.utf16_text.specs.Units.{units, unit_count, decoded}
 use Rattle.delta.specs.declared.Step.{Step}
-use Rattle.delta.specs.Steps.{reach_of, broken_cut, all_small, applied}
+use Rattle.delta.specs.Steps.{reach_of, inserted_by, broken_cut, all_small, applied}
 use Rattle.delta.specs.Compose.{composed_small}
 use Rattle.delta.specs.Transform.{transformed_small}
 use Rattle.delta.specs.Pack.{packed}
@@ -28,3 +28,7 @@ transformed right_first left right = packed (transformed_small right_first (all_
 abbrev pub over : List Step → List (List Step) → List Step
 over d [] = d
 over d (x ∷ xs) = over (transformed false x d) xs
+
+-- the reaches and the inserted lengths of both sum to at most 2^62 units
+abbrev pub HaveRoom : List Step → List Step → Type 0
+HaveRoom a b = reach_of a + inserted_by a + reach_of b + inserted_by b ≤ 2 ^ 62

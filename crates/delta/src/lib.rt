@@ -17,6 +17,13 @@ ghost use Rattle.delta.specs.Steps.{passed, put_in, reach_of, inserted_by};
 ghost use Rattle.delta.specs.Walk.{StepsOver, IsStepCause, IsSplitAt};
 ghost use Rattle.delta.specs.Apply.{IsApplyCause, IsApplied};
 
+mod composing;
+mod front;
+mod moves;
+mod packer;
+mod transforming;
+
+pub use moves::{Side, compose, have_room, transform};
 use std::alloc::{AllocError, Global};
 use std::marker::Model;
 use thiserror::Error;

@@ -1,7 +1,7 @@
 -- A composition of two scripts, one over the other's text, is a script.
 use Rattle.std.proofs.Common.{◌≡◌, ℕ, zero, suc, ◌+◌, ◌<◌, ◌≤◌, true, false, List, [], ◌∷◌, ◌++◌, length, map, replicate, refl, ap, ◌∙◌, arith}
 use Rattle.utf16_text.specs.Units.{units_of_character, is_scalar}
-use Rattle.delta.proofs.Composing.{followed_by, drops_first, keeps_meet, puts_kept, puts_gone, put_before_keep, put_before_put, put_at_end}
+use Rattle.delta.proofs.Compositions.{followed_by, drops_first, keeps_meet, puts_kept, puts_gone, put_before_keep, put_before_put, put_at_end}
 use Rattle.delta.specs.Spread.{Small, Keep, Drop, Put}
 use Rattle.delta_laws.proofs.Scripts.{Op, Kept, Gone, New, old, new, wide, width, width_pos, AreGood}
 

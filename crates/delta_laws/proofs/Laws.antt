@@ -5,7 +5,7 @@ use Rattle.std.specs.Prelude.{not}
 use Rattle.utf16_text.proofs.Counts.{unit_count-cons}
 use Rattle.utf16_text.proofs.Decoding.{only_scalars, only_scalars-AreScalars, decoded-AreScalars, decoded-units-AreScalars, units-only_scalars}
 use Rattle.utf16_text.specs.Units.{units, unit_count, units_of_character, decoded, AreScalars}
-use Rattle.delta.proofs.Composing.{followed_by}
+use Rattle.delta.proofs.Compositions.{followed_by}
 use Rattle.delta.proofs.Run.{woven_is_run}
 use Rattle.delta.specs.Moves.{FitsText, text_after, composed, transformed}
 use Rattle.delta.specs.Pack.{packed}
@@ -13,7 +13,7 @@ use Rattle.delta.specs.Spread.{Small, Keep, Drop, Put, keep, gap, small_reach, s
 use Rattle.delta.specs.Steps.{all_small, applied}
 use Rattle.delta.specs.Transform.{moved, moved_over, gaps}
 use Rattle.delta.specs.declared.Step.{Step}
-use Rattle.delta_laws.specs.Laws.{IsPairMoved, IsPairComposed, DeltaLaws}
+use Rattle.delta_laws.specs.Laws.{IsPairMoved, IsPairComposed, IsNothing, DeltaLaws}
 use Rattle.delta_laws.proofs.Following.{followed_scripts}
 use Rattle.delta_laws.proofs.Packing.{packed_script}
 use Rattle.delta_laws.proofs.Padding.{small_reach-more, small_items-more, transformed_small-more, composed_small-more, packed-more}
@@ -73,7 +73,7 @@ transformed_scripts f a b t p q =
 fits_from : (d : List Step) (s : List Op) (t : List ℕ) → d ≡ packed (wide s) → old s ≡ t → AreGood s → FitsText d t × (text_after d t ≡ new s)
 fits_from d s t e o g = rw (e, ← o) (packed_script s g)
 
-moved_law : (f : Bool) (a b : List Step) (t : List ℕ) → FitsText a t → FitsText b t → IsPairMoved f a b t
+pub moved_law : (f : Bool) (a b : List Step) (t : List ℕ) → FitsText a t → FitsText b t → IsPairMoved f a b t
 moved_law f a b t fa fb =
     let p = script_of a t fa in
     let q = script_of b t fb in
@@ -88,7 +88,7 @@ moved_law f a b t fa fb =
     let left = fits_from (transformed (not f) b a) m.left (text_after b t) left_is (m.left_from ∙ sym after_b) m.left_good in
     record { right_fits = right.0; left_fits = left.0; one_text = right.1 ∙ (m.same ∙ sym left.1) }
 
-composed_law : (a b : List Step) (t : List ℕ) → FitsText a t → FitsText b (text_after a t) → IsPairComposed a b t
+pub composed_law : (a b : List Step) (t : List ℕ) → FitsText a t → FitsText b (text_after a t) → IsPairComposed a b t
 composed_law a b t fa fb =
     let p = script_of a t fa in
     let q = script_of b (text_after a t) fb in
@@ -132,13 +132,18 @@ empty_moved_law f x =
 empty_text_law : (t : List ℕ) → AreScalars t → text_after [] t ≡ t
 empty_text_law t g = ap decoded (woven_is_run [] (units t)) ∙ decoded-units-AreScalars t g
 
+pub nothing_law : IsNothing []
+nothing_law = record {
+  fits = λ t. record { within = omega arith; whole = refl };
+  text = empty_text_law;
+  moved = empty_moved_law;
+}
+
 pub delta_laws : DeltaLaws
 delta_laws = record {
   moved = moved_law;
   one_after_the_other = composed_law;
   empty = empty_list;
-  empty_fits = λ t. record { within = omega arith; whole = refl };
-  empty_text = empty_text_law;
-  empty_moved = empty_moved_law;
+  nothing = nothing_law;
   makes_text = λ d t. decoded-AreScalars (applied d (units t));
 }

@@ -5,9 +5,11 @@ use Rattle.utf16_text.proofs.Counts.{units-append, unit_count-append, unit_count
 use Rattle.utf16_text.proofs.Decoding.{decoded-units-AreScalars}
 use Rattle.utf16_text.proofs.Scalars.{AreScalars-cons, AreScalars-head}
 use Rattle.utf16_text.specs.Units.{units, unit_count, units_of_character, is_scalar, decoded, AreScalars}
+use Rattle.delta.proofs.Packs.{puts_past, drops_past_puts, keep_past_puts, puts_past_drops, drops_past, keep_past_drops, from_keep-keeps, many_none, many_retain, many_insert, many_delete}
 use Rattle.delta.proofs.Run.{run, run-drops, run-puts, woven_is_run}
 use Rattle.delta.specs.Moves.{FitsText, text_after}
 use Rattle.delta.specs.Pack.{first_puts, first_drops, inserting, deleting, kept, from_keep, packed}
+use Rattle.delta.specs.Packers.{kept_many}
 use Rattle.delta.specs.Spread.{Small, Keep, Drop, Put}
 use Rattle.delta.specs.Steps.{passed, reach_of, all_small, cuts_from, first_broken}
 use Rattle.delta.specs.declared.Step.{Step}
@@ -55,39 +57,14 @@ aligned_whole (Delete n ∷ d) cs front t at e m a =
 pub aligned_fits : (d : List Step) (t : List ℕ) → Aligned d t → FitsText d t
 aligned_fits d t a = record { within = aligned_within d t a; whole = aligned_whole d t [] t 0 refl refl a }
 
--- as many Keeps before some steps
-abbrev kept_many : ℕ → List Step → List Step
-kept_many zero d = d
-kept_many (suc n) d = kept (kept_many n d)
-
-from_keep-keeps : (n : ℕ) (s : List Small) → from_keep (replicate (suc n) Keep ++ s) ≡ kept_many (suc n) (packed s)
-from_keep-keeps zero s = refl
-from_keep-keeps (suc n) s = ap kept (from_keep-keeps n s)
-
-many_none : (n : ℕ) → kept_many n [] ≡ []
-many_none zero = refl
-many_none (suc n) = ap kept (many_none n)
-
-many_retain : (n m : ℕ) (d : List Step) → kept_many n (Retain m ∷ d) ≡ Retain (n + m) ∷ d
-many_retain zero m d = rw zero-add refl
-many_retain (suc n) m d = let e : suc n + m ≡ suc (n + m) = omega arith in rw e (ap kept (many_retain n m d))
-
-many_insert : (n : ℕ) (text : List ℕ) (d : List Step) → kept_many (suc n) (Insert text ∷ d) ≡ Retain (suc n) ∷ Insert text ∷ d
-many_insert zero text d = refl
-many_insert (suc n) text d = ap kept (many_insert n text d)
-
-many_delete : (n m : ℕ) (d : List Step) → kept_many (suc n) (Delete m ∷ d) ≡ Retain (suc n) ∷ Delete m ∷ d
-many_delete zero m d = refl
-many_delete (suc n) m d = ap kept (many_delete n m d)
-
 aligned_kept : (n : ℕ) (d : List Step) (c : ℕ) (t : List ℕ) → width c ≡ suc n → Aligned d t → Aligned (kept_many (suc n) d) (c ∷ t)
 aligned_kept n [] c t e a = rw (many_none (suc n)) tt
 aligned_kept n (Retain m ∷ d) c t e a =
     rw (many_retain (suc n) m d) (record { taken = c ∷ a.taken; rest = a.rest; parts = ap (λ w. c ∷ w) a.parts; count = omega (arith, unit_count-cons c a.taken, a.count); more = a.more })
 aligned_kept n (Insert text ∷ d) c t e a =
-    rw (many_insert n text d) (record { taken = c ∷ []; rest = t; parts = refl; count = omega (arith, unit_count-cons c []); more = a })
+    rw (many_insert (suc n) text d) (record { taken = c ∷ []; rest = t; parts = refl; count = omega (arith, unit_count-cons c []); more = a })
 aligned_kept n (Delete m ∷ d) c t e a =
-    rw (many_delete n m d) (record { taken = c ∷ []; rest = t; parts = refl; count = omega (arith, unit_count-cons c []); more = a })
+    rw (many_delete (suc n) m d) (record { taken = c ∷ []; rest = t; parts = refl; count = omega (arith, unit_count-cons c []); more = a })
 
 run-kept : (d : List Step) (u : ℕ) (us : List ℕ) → run (all_small (kept d)) (u ∷ us) ≡ u ∷ run (all_small d) us
 run-kept [] u us = refl
@@ -152,30 +129,6 @@ whole_packed s w =
           (run-puts (units w.puts) (units w.drops ++ units w.rest) (replicate n Drop ++ all_small d)
           ∙ ap (λ v. units w.puts ++ v) (run-drops (units w.drops) (units w.rest) (all_small d) ∙ w.runs));
     }
-
-puts_past : (vs : List ℕ) (s : List Small) → first_puts (map Put vs ++ s) ≡ vs ++ first_puts s
-puts_past [] s = refl
-puts_past (v ∷ vs) s = ap (λ w. v ∷ w) (puts_past vs s)
-
-drops_past_puts : (vs : List ℕ) (s : List Small) → first_drops (map Put vs ++ s) ≡ first_drops s
-drops_past_puts [] s = refl
-drops_past_puts (v ∷ vs) s = drops_past_puts vs s
-
-keep_past_puts : (vs : List ℕ) (s : List Small) → from_keep (map Put vs ++ s) ≡ from_keep s
-keep_past_puts [] s = refl
-keep_past_puts (v ∷ vs) s = keep_past_puts vs s
-
-puts_past_drops : (n : ℕ) (s : List Small) → first_puts (replicate n Drop ++ s) ≡ first_puts s
-puts_past_drops zero s = refl
-puts_past_drops (suc n) s = puts_past_drops n s
-
-drops_past : (n : ℕ) (s : List Small) → first_drops (replicate n Drop ++ s) ≡ n + first_drops s
-drops_past zero s = rw zero-add refl
-drops_past (suc n) s = let e : suc n + first_drops s ≡ suc (n + first_drops s) = omega arith in rw e (ap suc (drops_past n s))
-
-keep_past_drops : (n : ℕ) (s : List Small) → from_keep (replicate n Drop ++ s) ≡ from_keep s
-keep_past_drops zero s = refl
-keep_past_drops (suc n) s = keep_past_drops n s
 
 with_kept : (n c : ℕ) (s : List Op) → width c ≡ suc n → IsPacked s → Stretches (Kept c ∷ s)
 with_kept n c s e p =

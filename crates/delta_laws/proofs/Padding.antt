@@ -1,7 +1,7 @@
 -- Keeps at the end of small steps change nothing.
 use Rattle.std.proofs.Common.{◌≡◌, ℕ, zero, suc, ◌+◌, ◌-◌, ◌<◌, ◌≤◌, Bool, true, false, List, [], ◌∷◌, ◌++◌, map, replicate, refl, sym, ap, ◌∙◌, arith, append_assoc, zero-add, max}
 use Rattle.std.proofs.lemmas.List.{append-nil, replicate-append-replicate}
-use Rattle.delta.proofs.Composing.{followed_by}
+use Rattle.delta.proofs.Compositions.{followed_by}
 use Rattle.delta.specs.Compose.{followed, over_base, composed_small}
 use Rattle.delta.specs.Pack.{first_puts, first_drops, stretch, inserting, deleting, kept, from_keep, packed}
 use Rattle.delta.specs.Spread.{Small, Keep, Drop, Put, keep, gap, small_reach, small_items}

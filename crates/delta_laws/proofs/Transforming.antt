@@ -3,7 +3,7 @@ use Rattle.std.proofs.Common.{◌≡◌, ℕ, zero, suc, ◌+◌, ◌<◌, ◌�
 use Rattle.std.specs.Prelude.{not}
 use Rattle.utf16_text.proofs.Counts.{unit_count-cons}
 use Rattle.utf16_text.specs.Units.{unit_count, units_of_character, is_scalar}
-use Rattle.delta.proofs.Runs.{runs, left_put, left_put_after, right_put, right_put_after}
+use Rattle.delta.proofs.Transforms.{runs, left_put, left_put_after, right_put, right_put_after}
 use Rattle.delta.specs.Compose.{mark}
 use Rattle.delta.specs.Spread.{Small, Keep, Drop, Put, gap}
 use Rattle.delta.specs.Transform.{moved_over}

@@ -15,14 +15,18 @@ pub record IsPairComposed (a b : List Step) (t : List ℕ) : Type 0 where
   pub fits : FitsText (composed a b) t
   pub one_text : text_after (composed a b) t ≡ text_after b (text_after a t)
 
+-- a delta that fits each text, does nothing to it, and does nothing after any other
+pub record IsNothing (d : List Step) : Type 0 where
+  pub fits : (t : List ℕ) → FitsText d t
+  pub text : (t : List ℕ) → AreScalars t → text_after d t ≡ t
+  pub moved : (right_first : Bool) (x : List Step) → transformed right_first x d ≡ d
+
 -- the laws
 pub record DeltaLaws : Type 0 where
   pub moved : (right_first : Bool) (a b : List Step) (t : List ℕ) → FitsText a t → FitsText b t → IsPairMoved right_first a b t
   pub one_after_the_other : (a b : List Step) (t : List ℕ) → FitsText a t → FitsText b (text_after a t) → IsPairComposed a b t
-  -- the empty delta is the one without steps; it fits each text, does nothing to it, and stays empty after any other
+  -- the empty delta is the one without steps, and does nothing
   pub empty : (d : List Step) → length d ≡ 0 → d ≡ []
-  pub empty_fits : (t : List ℕ) → FitsText [] t
-  pub empty_text : (t : List ℕ) → AreScalars t → text_after [] t ≡ t
-  pub empty_moved : (right_first : Bool) (x : List Step) → transformed right_first x [] ≡ []
+  pub nothing : IsNothing []
   -- what a delta makes of a text is a text
   pub makes_text : (d : List Step) (t : List ℕ) → AreScalars (text_after d t)

@@ -1,3 +1,110 @@
-//! The laws of deltas: both orders of two edits make one text, and a composition makes what its two
-//! parts make one after the other.
+//! The laws of deltas, as calls whose contracts are the laws.
+//!
+//! Two edits of one text that know nothing of each other can be made in either order: each, as it
+//! goes after the other, fits what the other makes, and both orders make one text. An edit and one of
+//! what it makes can be joined: as one they fit the first text and make the same of it.
+//!
+//! The layer above may rely on `DeltaLaws`, one record of all laws over the definitions, which
+//! `delta_laws` of `proofs/` gives: it is the only lemma on deltas that clients and servers need.
 #![tactic(auto)]
+
+ghost use Rattle.std.specs.Prelude.{◌≡◌, [], true, false, IfOk};
+ghost use Rattle.delta.specs.Moves.{FitsText, HaveRoom, text_after, composed, transformed};
+ghost use Rattle.delta_laws.specs.Laws.{IsNothing};
+ghost use Rattle.delta_laws.specs.Pairs.{IsBothOrders, IsInTwo};
+
+use delta::{ApplyError, Delta, Side, compose, have_room, transform};
+use std::alloc::{AllocError, Global};
+use utf16_text::Text;
+
+/// Two texts that a law says are equal.
+#[derive(Debug, Drop)]
+pub struct Pair {
+    pub one: Text,
+    pub other: Text,
+}
+
+/// `a` and then `b` as it goes after `a`, and `b` and then `a` as it goes after `b`; where both put
+/// something in at one place, that of `a` comes first. Both deltas fit the text.
+pub fn both_orders(alloc: Global, text: &Text, a: &Delta, b: &Delta) -> Result<Pair, AllocError>
+    requires a_fits { FitsText a.now text.now }
+    requires b_fits { FitsText b.now text.now }
+    ensures { IfOk result (IsBothOrders text.now a.now b.now) }
+{
+    if !have_room(a, b) {
+        return Err(AllocError);
+    }
+    let one = a_first(alloc, text, a, b)?;
+    let other = b_first(alloc, text, a, b)?;
+    Ok(Pair { one, other })
+}
+
+/// `a` and then `b`, one by one, and as one delta. `a` fits the text, and `b` what `a` makes of it.
+pub fn in_two(alloc: Global, text: &Text, a: &Delta, b: &Delta) -> Result<Pair, AllocError>
+    requires a_fits { FitsText a.now text.now }
+    requires b_fits { FitsText b.now (text_after a.now text.now) }
+    ensures { IfOk result (IsInTwo text.now a.now b.now) }
+{
+    if !have_room(a, b) {
+        return Err(AllocError);
+    }
+    let after = applied(alloc, a, text)?;
+    let one = applied(alloc, b, &after)?;
+    let other = applied_at_once(alloc, text, a, b)?;
+    Ok(Pair { one, other })
+}
+
+/// The delta that does nothing. It takes no memory.
+pub fn nothing(alloc: Global) -> Delta
+    ensures steps { result ≡ [] }
+    ensures laws { IsNothing result }
+{
+    match Delta::from_compact(Vec::new(alloc)) {
+        Ok(delta) => delta,
+        Err(_) => unreachable!(),
+    }
+}
+
+fn a_first(alloc: Global, text: &Text, a: &Delta, b: &Delta) -> Result<Text, AllocError>
+    requires a_fits { FitsText a.now text.now }
+    requires b_fits { FitsText b.now text.now }
+    requires room { HaveRoom a.now b.now }
+    ensures { IfOk result (λ t. t ≡ text_after (transformed false a.now b.now) (text_after a.now text.now)) }
+{
+    let after = applied(alloc, a, text)?;
+    let moved = transform(alloc, a, b, Side::Left)?;
+    applied(alloc, &moved, &after)
+}
+
+fn b_first(alloc: Global, text: &Text, a: &Delta, b: &Delta) -> Result<Text, AllocError>
+    requires a_fits { FitsText a.now text.now }
+    requires b_fits { FitsText b.now text.now }
+    requires room { HaveRoom a.now b.now }
+    ensures { IfOk result (λ t. t ≡ text_after (transformed true b.now a.now) (text_after b.now text.now)) }
+{
+    let after = applied(alloc, b, text)?;
+    let moved = transform(alloc, b, a, Side::Right)?;
+    applied(alloc, &moved, &after)
+}
+
+fn applied_at_once(alloc: Global, text: &Text, a: &Delta, b: &Delta) -> Result<Text, AllocError>
+    requires a_fits { FitsText a.now text.now }
+    requires b_fits { FitsText b.now (text_after a.now text.now) }
+    requires room { HaveRoom a.now b.now }
+    ensures { IfOk result (λ t. t ≡ text_after (composed a.now b.now) text.now) }
+{
+    let both = compose(alloc, a, b)?;
+    applied(alloc, &both, text)
+}
+
+/// What a delta makes of a text that it fits.
+fn applied(alloc: Global, delta: &Delta, text: &Text) -> Result<Text, AllocError>
+    requires { FitsText delta.now text.now }
+    ensures { IfOk result (λ t. t ≡ text_after delta.now text.now) }
+{
+    match delta.apply(alloc, text) {
+        Ok(made) => Ok(made),
+        Err(ApplyError::OutOfMemory) => Err(AllocError),
+        Err(ApplyError::PastEnd { .. } | ApplyError::SplitsPair { .. }) => unreachable!(),
+    }
+}

@@ -1,0 +1,32 @@
+-- The steps of a delta as runs over units.
+use Rattle.std.specs.Prelude.{◌≡◌, ℕ, ◌<◌, List, [], ◌∷◌, ◌++◌, map, replicate, length}
+use Rattle.std.specs.List.{flat_map}
+use Rattle.delta.specs.Spread.{Small, Keep, Drop, Put}
+use Rattle.delta.specs.Steps.{small_steps}
+use Rattle.delta.specs.declared.Step.{Step}
+use Rattle.delta.specs.declared.front.Run.{Run}
+use Rattle.delta.specs.declared.front.Run.TheVariants.{Kept, Gone, New}
+
+-- the small steps of a run
+abbrev pub run_small : Run → List Small
+run_small (Kept n) = replicate n Keep
+run_small (Gone n) = replicate n Drop
+run_small (New units) = map Put units.items
+
+abbrev pub all_runs : List Run → List Small
+all_runs runs = flat_map run_small runs
+
+-- a run that is not empty
+abbrev pub IsRun : Run → Type 0
+IsRun (Kept n) = 0 < n
+IsRun (Gone n) = 0 < n
+IsRun (New units) = 0 < length units.items
+
+abbrev pub AllRuns : List Run → Type 0
+AllRuns [] = Unit {0}
+AllRuns (run ∷ runs) = IsRun run × AllRuns runs
+
+-- the run of a step was added, where it is not empty
+pub record AppendsRun (old new : List Run) (step : Step) : Type 0 where
+  pub same : all_runs new ≡ all_runs old ++ small_steps step
+  pub runs : AllRuns old → AllRuns new
