@@ -4,7 +4,7 @@ use Rattle.std.specs.List.{AllByRecursion, flat_map}
 use Rattle.notebook.specs.declared.parts.Cell.{Cell}
 use Rattle.notebook.specs.declared.parts.Section.{Section}
 use Rattle.notebook.specs.declared.parts.Parts.{Parts}
-use Rattle.notebook.specs.Book.{cells, cells_of, section_cells}
+use Rattle.notebook.specs.Book.{cells, cells_of}
 use Rattle.transcript.specs.Texts.{cell_line, cell_lines, section_line, section_lines, setup_lines, book_lines, text_of}
 
 -- both give each cell the same revision

@@ -1,12 +1,11 @@
 -- The notebook that the tests print keeps the rules.
-use Rattle.std.proofs.Common.{◌≡◌, ◌≢◌, ℕ, ◌+◌, ◌<◌, ◌≤◌, List, [], ◌∷◌, ◌++◌, length, map, Option, Some, None, Contains, refl, sym, ◌∙◌, ap, subst, arith, lit<, lit≤}
+use Rattle.std.proofs.Common.{◌≡◌, ◌≢◌, ℕ, ◌+◌, ◌≤◌, List, [], ◌∷◌, ◌++◌, length, map, Some, None, Contains, sym, ◌∙◌, ap, subst, arith, lit<, lit≤}
 use Rattle.std.specs.List.{AllByRecursion, flat_map}
 use Rattle.std.proofs.lemmas.Map.Made.{Contains-tail}
 use Rattle.std.proofs.lemmas.List.Elements.{Contains-push}
 use Rattle.notebook.specs.declared.parts.Cell.{Cell}
 use Rattle.notebook.specs.declared.parts.Section.{Section}
 use Rattle.notebook.specs.declared.parts.Parts.{Parts}
-use Rattle.notebook.specs.declared.parts.Kind.{Kind}
 use Rattle.notebook.specs.declared.parts.Kind.TheVariants.{Setup, Code, Markdown}
 use Rattle.notebook.specs.Book.{cells_of, section_cells}
 use Rattle.notebook.specs.Rules.{cell_number, section_number, AreDistinct, IsSectionKind, IsSectionCell, IsBelow, IsParentAmong, ParentsStand, code_weight, code_count, numbered_cells, IsNotebook}
