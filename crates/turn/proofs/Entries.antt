@@ -106,5 +106,6 @@ module _ {E : Type 0} (number_of : E → ℕ) where
     may_find = may;
     acted = acted;
     extends = extends;
+    longer = prefix_trans seen found seen' may.0 (extends_prefix p found seen' extends);
     own = extends_own p found seen' extends ∙ ap (λ (l : List E). l ++ drop (length found) seen') may.1;
   }

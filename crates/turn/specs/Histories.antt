@@ -15,11 +15,13 @@ module _ {E : Type 0} (number_of : E → ℕ) where
   abbrev pub MayFind : ℕ → List E → List E → Type 0
   MayFind p seen log = IsPrefix seen log × (entries_by p log ≡ entries_by p seen)
 
-  -- a turn of p, which had seen `seen` and has seen `seen'` since: the list that it found, and what the act did with it
+  -- a turn of p, which had seen `seen` and has now seen `seen'`: the list that it found, and what the act did with it
   pub record TakesTurn (p : ℕ) (seen : List E) (act : List E → List E → Type 0) (seen' : List E) : Type 0 where
     pub found : List E
     pub may_find : MayFind p seen found
     pub acted : act found seen'
     pub extends : Extends p found seen'
+    -- what p has seen begins with what it had seen
+    pub longer : IsPrefix seen seen'
     -- under p stand the old entries and the act's
     pub own : entries_by p seen' ≡ entries_by p seen ++ drop (length found) seen'

@@ -63,8 +63,9 @@ module _ {O E : Type 0} where
     pub prefix : IsPrefix v.seen log
     -- under a live seat's number stand the entries that it has seen there
     pub own : is_live v ≡ true → entries_by number_of i log ≡ entries_by number_of i v.seen
+    -- and those that it had seen there before others were joined into it
     pub alone : is_live v ≡ true → IsPrefix v.alone log × (entries_by number_of i log ≡ entries_by number_of i v.alone)
-    -- under an ended number stand just the entries that were kept with it
+    -- under an ended number stand just the entries of the list that was kept with it, which is a beginning too
     pub past : All (λ e. IsPrefix e.seen log × (entries_by number_of e.number log ≡ entries_by number_of e.number e.seen)) v.ended
 
   -- each number that was made stands for one seat, live or ended, and no other number for any: so live and ended numbers all differ
@@ -120,6 +121,7 @@ module _ {O E : Type 0} where
 
     -- The steps: what a seat, with its view and the slot that it holds, knows afterwards.
 
+    -- a seat's view, and the slots that it holds
     abbrev pub Holder : Type 0
     Holder = Me (Option S) (View O E)
 
@@ -127,9 +129,11 @@ module _ {O E : Type 0} where
     abbrev pub hand : S → List (ℕ × Option S)
     hand y = (0, Some y) ∷ []
 
+    -- a seat with this ticket, or with none, which waits for its turn or wants none
     abbrev pub with_ticket : View O E → Option ℕ → View O E
     with_ticket v t = record v { ticket = t; turn = false }
 
+    -- a seat that has the turn, and has seen the state's list
     abbrev pub in_turn : View O E → List E → View O E
     in_turn v log = record v { seen = log; alone = log; turn = true }
 

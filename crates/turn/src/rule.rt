@@ -28,7 +28,7 @@ pub struct View<O, E> {
     pub made: u64,
 }
 
-/// A seat that was joined into another: its number, and what it had seen.
+/// A seat that was joined into another: its number, and what it had seen, with its entries.
 pub struct Ended<E> {
     pub number: u64,
     pub seen: LinkedList<E>,
