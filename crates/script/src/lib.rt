@@ -6,8 +6,10 @@
 
 mod book;
 mod content;
+mod error;
 mod line;
 
 pub use book::Script;
 pub use content::Content;
+pub use error::{LineFault, ScriptError};
 pub use line::ScriptLine;
