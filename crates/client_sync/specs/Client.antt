@@ -1,0 +1,127 @@
+-- A client: how far it has received, and what of its own is not yet confirmed.
+use Rattle.std.specs.Prelude.{ℕ, ◌==◌, nat_lt, if◌then◌else◌, true, false, List, [], ◌∷◌, ◌++◌, Option, Some, None}
+use Rattle.delta.specs.declared.Step.{Step}
+use Rattle.delta.specs.Steps.{inserted_by}
+use Rattle.delta.specs.Moves.{text_after, transformed, composed}
+use Rattle.notebook.specs.declared.parts.Cell.{Cell}
+use Rattle.notebook.specs.declared.parts.Parts.{Parts}
+use Rattle.notebook.specs.Book.{cells, found, resourced}
+use Rattle.session_ops.specs.declared.entry.Op.{Op}
+use Rattle.session_ops.specs.declared.entry.Op.TheVariants.{Delta}
+use Rattle.session_ops.specs.declared.entry.Call.{Call}
+use Rattle.session_ops.specs.declared.entry.Call.TheVariants.{Client as ByClient}
+use Rattle.session_ops.specs.declared.entry.Reply.{Reply}
+use Rattle.session_ops.specs.declared.entry.Reply.TheVariants.{Applied}
+use Rattle.session_ops.specs.declared.entry.Entry.{Entry}
+use Rattle.session_ops.specs.State.{State, state, revision, Misfit, Past, Splits, misfit}
+use Rattle.client_sync.specs.declared.edit_error.EditError.{EditError}
+use Rattle.client_sync.specs.declared.edit_error.EditError.TheVariants.{NoCell, EditTooLong, PastEnd, SplitsPair}
+
+-- a cell with a delta in flight, and what was edited since
+pub record Pending : Type 0 where
+  pub cell : ℕ
+  pub flight : List Step
+  pub buffer : List Step
+
+-- the entries that the client has received, whose number is its cursor; its pending edits; the messages that the server hasn't taken yet
+pub record Client : Type 0 where
+  pub number : ℕ
+  pub seen : List Entry
+  pub pending : List Pending
+  pub outbox : List Op
+
+abbrev pub pending_of : ℕ → List Pending → Option Pending
+pending_of cell [] = None
+pending_of cell (p ∷ ps) = if p.cell == cell then Some p else pending_of cell ps
+
+-- a text with what is in flight and then what is buffered done to it
+abbrev pub with_pending : Option Pending → List ℕ → List ℕ
+with_pending None t = t
+with_pending (Some p) t = text_after p.buffer (text_after p.flight t)
+
+abbrev pub own_source : List Pending → Cell → List ℕ
+own_source ps c = with_pending (pending_of c.id ps) c.source
+
+-- the server's state as of the client's last delivery
+abbrev pub delivered : Parts → Client → State
+delivered n0 c = state n0 c.seen
+
+-- the server's notebook as of the client's last delivery, with its own unconfirmed edits done to it
+abbrev pub held : Parts → Client → Parts
+held n0 c = resourced (own_source c.pending) (delivered n0 c).book
+
+-- what an edit makes of a client, or why it refuses
+pub data Edited : Type 0 where
+  Done : Client → Edited
+  Refused : EditError → Edited
+
+abbrev pub error_of : Misfit → EditError
+error_of (Past len) = PastEnd len
+error_of (Splits at) = SplitsPair at
+
+abbrev pub buffered : ℕ → List Step → List Pending → List Pending
+buffered cell d [] = []
+buffered cell d (p ∷ ps) = (if p.cell == cell then record p { buffer = composed p.buffer d } else p) ∷ buffered cell d ps
+
+-- with nothing in flight the edit is posted with the cell's revision; else it goes into the buffer
+abbrev pub with_edit : Client → ℕ → ℕ → List Step → Option Pending → Client
+with_edit c cell rev d None = record c { pending = c.pending ++ record { cell = cell; flight = d; buffer = [] } ∷ []; outbox = c.outbox ++ Delta cell rev d ∷ [] }
+with_edit c cell rev d (Some p) = record c { pending = buffered cell d c.pending }
+
+-- an edit that may be too long or unfit for the client's own text; an empty one does nothing
+abbrev pub with_fitting : Client → ℕ → ℕ → List Step → Option Misfit → Edited
+with_fitting c cell rev [] None = Done c
+with_fitting c cell rev (s ∷ d) None = Done (with_edit c cell rev (s ∷ d) (pending_of cell c.pending))
+with_fitting c cell rev d (Some why) = Refused (error_of why)
+
+abbrev pub edited_cell : Client → ℕ → ℕ → List Step → Option Cell → Edited
+edited_cell c cell rev d None = Refused NoCell
+edited_cell c cell rev d (Some own) = if nat_lt 65536 (inserted_by d) then Refused EditTooLong else with_fitting c cell rev d (misfit d own.source)
+
+-- an edit, judged by the client's own text
+abbrev pub edited : Parts → Client → ℕ → List Step → Edited
+edited n0 c cell d = edited_cell c cell (revision (delivered n0 c) cell) d (found cell (cells (held n0 c)))
+
+abbrev pub without : ℕ → List Pending → List Pending
+without cell [] = []
+without cell (p ∷ ps) = if p.cell == cell then without cell ps else p ∷ without cell ps
+
+-- what was buffered is posted, unless it is empty
+abbrev pub reposted : Client → ℕ → ℕ → List Step → Client
+reposted c cell rev [] = record c { pending = without cell c.pending }
+reposted c cell rev (s ∷ b) =
+    record c { pending = without cell c.pending ++ record { cell = cell; flight = s ∷ b; buffer = [] } ∷ []; outbox = c.outbox ++ Delta cell rev (s ∷ b) ∷ [] }
+
+-- the client's own delta came back
+abbrev pub with_own : Client → ℕ → ℕ → Option Pending → Client
+with_own c cell rev None = c
+with_own c cell rev (Some p) = reposted c cell rev p.buffer
+
+-- another's delta moves what is pending for its cell, and goes first in every tie
+abbrev pub moved : ℕ → List Step → Pending → Pending
+moved cell x p =
+    if p.cell == cell
+    then record p { flight = transformed false x p.flight; buffer = transformed false (transformed true p.flight x) p.buffer }
+    else p
+
+abbrev pub all_moved : ℕ → List Step → List Pending → List Pending
+all_moved cell x [] = []
+all_moved cell x (p ∷ ps) = moved cell x p ∷ all_moved cell x ps
+
+-- what an entry makes of the pending edits and the outbox
+abbrev pub with_call : Client → Call → Reply → Client
+with_call c (ByClient n (Delta cell base d)) (Applied rev x) =
+    if n == c.number then with_own c cell rev (pending_of cell c.pending) else record c { pending = all_moved cell x c.pending }
+with_call c call answer = c
+
+-- the client after the next entry of the history
+abbrev pub received_entry : Client → Entry → Client
+received_entry c e = with_call (record c { seen = c.seen ++ e ∷ [] }) e.call e.reply
+
+abbrev pub received : Client → List Entry → Client
+received c [] = c
+received c (e ∷ es) = received (received_entry c e) es
+
+-- a client that joined with these entries
+abbrev pub joined_client : ℕ → List Entry → Client
+joined_client n seen = record { number = n; seen = seen; pending = []; outbox = [] }

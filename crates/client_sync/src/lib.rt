@@ -1,0 +1,9 @@
+//! A client: how far it has received the history, and what of its own isn't confirmed yet.
+//!
+//! What the layers above may rely on: the definitions in `specs/Client.antt` say what a client
+//! holds, what an edit makes of it, and what each received entry does.
+#![tactic(auto)]
+
+mod edit_error;
+
+pub use edit_error::EditError;

@@ -1,0 +1,4 @@
+pub mod CanonicalSteps
+mod Examples
+pub mod Run
+pub mod Walk

@@ -1,0 +1,9 @@
+pub mod Apply
+pub mod Canonical
+pub mod Compose
+pub mod Moves
+pub mod Pack
+pub mod Spread
+pub mod Steps
+pub mod Transform
+pub mod Walk

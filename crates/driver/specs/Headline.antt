@@ -1,0 +1,81 @@
+-- What a run of a script says: it prints the transcript of one actual history.
+use Rattle.std.specs.Prelude.{◌≡◌, ℕ, ◌+◌, ◌<◌, ◌≤◌, ◌⊎◌, List, [], ◌∷◌, ◌++◌, length, map, Option, Some, None}
+use Rattle.delta.specs.declared.Step.{Step}
+use Rattle.delta.specs.Moves.{text_after}
+use Rattle.notebook.specs.declared.parts.Cell.{Cell}
+use Rattle.notebook.specs.declared.parts.Parts.{Parts}
+use Rattle.notebook.specs.Book.{cells, found}
+use Rattle.session_ops.specs.declared.entry.Call.{Call}
+use Rattle.session_ops.specs.declared.entry.Call.TheVariants.{Client as ByClient}
+use Rattle.session_ops.specs.declared.entry.Entry.{Entry}
+use Rattle.session_ops.specs.State.{State, Legal, state, taken_by, entries_by, misfit}
+use Rattle.client_sync.specs.Client.{Client, Pending, delivered, held}
+use Rattle.script.specs.declared.content.Content.{Content}
+use Rattle.driver.specs.Turns.{AreMarks}
+use Rattle.driver.specs.Player.{Stage}
+use Rattle.driver.specs.Transcript.{finished, transcript}
+
+-- calls that evaluators make: there are none yet
+abbrev pub IsEvaluation : Call → Type 0
+IsEvaluation (ByClient n op) = ⊥
+
+-- an entry of the script's player, or an evaluator's
+abbrev pub IsOfRun : ℕ → Entry → Type 0
+IsOfRun workers e = (e.by ≡ 0) ⊎ ((e.by < 2 + workers) × IsEvaluation e.call)
+
+abbrev pub AllOfRun : ℕ → List Entry → Type 0
+AllOfRun workers [] = Unit {0}
+AllOfRun workers (e ∷ es) = IsOfRun workers e × AllOfRun workers es
+
+abbrev pub call_of : Entry → Call
+call_of e = e.call
+
+-- the unconfirmed edits of a cell fit what the server had, one after the other
+abbrev pub FitsCell : Pending → Option Cell → Type 0
+FitsCell p None = ⊥
+FitsCell p (Some c) = (misfit p.flight c.source ≡ None) × (misfit p.buffer (text_after p.flight c.source) ≡ None)
+
+abbrev pub AllFit : List Pending → List Cell → Type 0
+AllFit [] cs = Unit {0}
+AllFit (p ∷ ps) cs = FitsCell p (found p.cell cs) × AllFit ps cs
+
+-- a client has received the history up to its cursor; its unconfirmed edits fit there; with all received and nothing pending it holds the server's notebook
+pub record IsClientOf (n0 : Parts) (h : List Entry) (c : Client) : Type 0 where
+  pub cursor : (later : List Entry) × (h ≡ c.seen ++ later)
+  pub edits : AllFit c.pending (cells (delivered n0 c).book)
+  pub agrees : c.seen ≡ h → c.pending ≡ [] → held n0 c ≡ (state n0 h).book
+
+abbrev pub AllClients : Parts → List Entry → List Client → Type 0
+AllClients n0 h [] = Unit {0}
+AllClients n0 h (c ∷ cs) = IsClientOf n0 h c × AllClients n0 h cs
+
+-- a text after some deltas, one after the other
+abbrev pub text_after_all : List ℕ → List (List Step) → List ℕ
+text_after_all t [] = t
+text_after_all t (x ∷ xs) = text_after_all (text_after x t) xs
+
+-- the source with which a cell began
+abbrev pub source_of : Option Cell → List ℕ
+source_of None = []
+source_of (Some c) = c.source
+
+-- each of these live cells has the source with which it began, after all its accepted deltas in order, each once
+abbrev pub AllGrown : Parts → State → List Cell → Type 0
+AllGrown n0 s [] = Unit {0}
+AllGrown n0 s (c ∷ cs) = (c.source ≡ text_after_all (source_of (found c.id (cells n0))) (taken_by c.id s.taken)) × AllGrown n0 s cs
+
+-- a history that one run could have made: legal, with marks in order, and each entry the player's or an evaluator's
+pub record IsHistory (n0 : Parts) (workers : ℕ) (h : List Entry) (marks : List ℕ) : Type 0 where
+  pub legal : Legal n0 h
+  pub marked : AreMarks 0 marks (length h)
+  pub others : AllOfRun workers h
+
+-- a run that was played to its end
+pub record IsPlayed (n0 : Parts) (notices : List (List ℕ)) (script : Content) (workers : ℕ) (h : List Entry) (marks : List ℕ) (text : List ℕ) : Type 0 where
+  pub history : IsHistory n0 workers h marks
+  pub printed : transcript n0 notices script h marks ≡ Some text
+  pub stage : Stage
+  pub played : finished n0 notices script h marks ≡ Some stage
+  pub calls : stage.asked ≡ map call_of (entries_by h 0)
+  pub clients : AllClients n0 h stage.clients
+  pub once : AllGrown n0 (state n0 h) (cells (state n0 h).book)

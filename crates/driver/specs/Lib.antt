@@ -1,0 +1,4 @@
+pub mod Headline
+pub mod Player
+pub mod Transcript
+pub mod Turns

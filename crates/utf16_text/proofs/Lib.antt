@@ -1,0 +1,4 @@
+pub mod Counts
+pub mod Decoding
+pub mod Places
+pub mod Scalars
