@@ -6,8 +6,10 @@
 
 mod book;
 mod content;
+mod cut;
 mod error;
 mod line;
+mod words;
 
 pub use book::Script;
 pub use content::Content;
