@@ -7,6 +7,7 @@
 mod book;
 mod content;
 mod cut;
+mod delta_text;
 mod error;
 mod line;
 mod words;
