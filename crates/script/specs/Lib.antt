@@ -1,4 +1,5 @@
 pub mod Delta
+pub mod Form
 pub mod Line
 pub mod Lines
 pub mod Name

@@ -9,6 +9,7 @@ mod content;
 mod cut;
 mod delta_text;
 mod error;
+mod form;
 mod line;
 mod words;
 

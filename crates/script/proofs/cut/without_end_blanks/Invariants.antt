@@ -6,7 +6,7 @@ use Rattle.script.proofs.cut.without_end_blanks.Given as goal
 abbrev pub invariant-loop-end : goal.invariant-loop-end
 invariant-loop-end l = record {
   within : l.end ≤ length l.text;
-  cut : (k : ℕ) → l.end ≤ k → k < length l.text → is_blank (get_or l.text k 0) ≡ true
+  cut : (k : ℕ) → l.end ≤ k → k < length l.text → is_blank (get_or l.text k 0) ≡ true;
 }
 
 abbrev pub decreases-loop-end : goal.decreases-loop-end

@@ -10,5 +10,5 @@ range_from-requires c = λ _. front_boundary c.args.text.now c.loop-start.start 
 pub returns : goal.returns
 returns c =
     let stops : c.loop-start.start < length c.args.text.now → is_blank (get_or c.args.text.now c.loop-start.start 0) ≡ false =
-        elim c.loop-start-test.branch [ then-loop-start-test+else-is_blank w ↦ λ _. (cc) | else-loop-start-test w ↦ λ h. absurd (omega arith) ] in
+    elim c.loop-start-test.branch [ then-loop-start-test+else-is_blank w ↦ λ _. (cc) | else-loop-start-test w ↦ λ h. absurd (omega arith) ] in
     c.range_from.ensures.value ∙ without_front_is is_blank c.args.text.now c.loop-start.start c.loop-start.invariant.within c.loop-start.invariant.cut stops

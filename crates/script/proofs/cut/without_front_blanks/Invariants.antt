@@ -6,7 +6,7 @@ use Rattle.script.proofs.cut.without_front_blanks.Given as goal
 abbrev pub invariant-loop-start : goal.invariant-loop-start
 invariant-loop-start l = record {
   within : l.start ≤ length l.text;
-  cut : (k : ℕ) → k < l.start → is_blank (get_or l.text k 0) ≡ true
+  cut : (k : ℕ) → k < l.start → is_blank (get_or l.text k 0) ≡ true;
 }
 
 abbrev pub decreases-loop-start : goal.decreases-loop-start
