@@ -3,6 +3,7 @@ pub mod Form
 pub mod Line
 pub mod Lines
 pub mod Name
+pub mod Next
 pub mod Number
 pub mod Play
 pub mod Script

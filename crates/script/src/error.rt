@@ -1,8 +1,9 @@
 //! Why bytes are no script.
 ghost use Rattle.std.specs.Prelude.{◌≡◌};
+ghost use Rattle.script.specs.declared.error.Refusal.TheVariants.{OutOfMemory as RefusalMemory};
 ghost use Rattle.script.specs.declared.error.ScriptError.TheVariants.{OutOfMemory};
 
-use std::alloc::{AllocError, AllocFailed};
+use std::alloc::AllocError;
 use thiserror::Error;
 
 /// What is wrong with a line.
@@ -34,5 +35,22 @@ impl From<AllocError> for ScriptError {
 
     fn from(_: AllocError) -> ScriptError {
         ScriptError::OutOfMemory
+    }
+}
+
+/// Why a line is not taken.
+#[derive(Clone, Copy, Debug, PartialEq, Eq)]
+pub(crate) enum Refusal {
+    /// The line has a fault.
+    Fault(LineFault),
+    /// Memory ran out.
+    OutOfMemory,
+}
+
+impl From<AllocError> for Refusal {
+    ghost from_gives = { λ _ e. e ≡ RefusalMemory };
+
+    fn from(_: AllocError) -> Refusal {
+        Refusal::OutOfMemory
     }
 }
