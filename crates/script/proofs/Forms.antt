@@ -1,5 +1,5 @@
 -- Which line a text is, by its first word.
-use Rattle.std.proofs.Common.{◌≡◌, ◌∙◌, ℕ, Bool, true, false, List, [], ◌∷◌, codes, refl, sym, Option, Some, None, Result, Ok, Err, IfOk, MatchOption}
+use Rattle.std.proofs.Common.{◌≡◌, ◌∙◌, ℕ, Bool, true, false, List, codes, refl, sym, Option, Some, None, Result, Ok, Err, IfOk}
 use Rattle.std.specs.Str.{bytes_eq}
 use Rattle.std.proofs.lemmas.Slice.Eq.{bytes_eq-Decides}
 use Rattle.script.specs.declared.line.ScriptLine.{ScriptLine}
@@ -8,7 +8,7 @@ use Rattle.script.specs.Words.{first_word, after_word}
 use Rattle.script.specs.Form.{Tells, FitsAt, IsSyncLine, IsShowLine, IsEditLine}
 
 -- texts that a test tells apart
-apart : (xs ys : List ℕ) → bytes_eq xs ys ≡ false → xs ≡ ys → ⊥
+pub apart : (xs ys : List ℕ) → bytes_eq xs ys ≡ false → xs ≡ ys → ⊥
 apart xs ys differs same = let e : true ≡ false = sym ((bytes_eq-Decides xs ys).1 same) ∙ differs in absurd (cc)
 
 pub Tells-same : (P Q : ScriptLine → Type 0) (answer : Option ScriptLine) → ((line : ScriptLine) → P line → Q line) → ((line : ScriptLine) → Q line → P line) → Tells P answer → Tells Q answer

@@ -1,6 +1,6 @@
 -- Scripts that grow by a line.
-use Rattle.std.proofs.Common.{◌≡◌, ◌≢◌, ◌∙◌, ℕ, ◌<◌, Bool, true, false, ◌&&◌, List, [], ◌∷◌, ◌++◌, length, codes, refl, sym, ap, subst, arith, Option, Some, None}
-use Rattle.std.specs.Prelude.{slice_get, slice_index}
+use Rattle.std.proofs.Common.{◌≡◌, ◌≢◌, ◌∙◌, ℕ, ◌<◌, Bool, true, false, ◌&&◌, List, [], ◌∷◌, ◌++◌, refl, sym, ap, subst, arith, Some, None}
+use Rattle.std.specs.Prelude.{slice_get}
 use Rattle.std.specs.List.{list_all}
 use Rattle.std.specs.Str.{chars, IsAscii, encode_utf8_all}
 use Rattle.std.proofs.lemmas.Str.{chars-IsAscii, encodes-IsAscii}
@@ -9,8 +9,8 @@ use Rattle.std.proofs.lemmas.Bool.Decides.{nat_tests}
 use Rattle.script.specs.declared.line.ScriptLine.{ScriptLine}
 use Rattle.script.specs.declared.line.ScriptLine.TheVariants.{Join, Edit, Sync, Show}
 use Rattle.script.specs.declared.content.Content.{Content}
-use Rattle.script.specs.Words.{first_word, after_word}
-use Rattle.script.specs.Name.{is_name_character, is_small_letter, is_name, IsName}
+use Rattle.script.specs.Words.{after_word}
+use Rattle.script.specs.Name.{is_name_character, IsName}
 use Rattle.script.specs.Line.{IsLine}
 use Rattle.script.specs.Form.{FitsAt, IsJoinName}
 use Rattle.script.specs.Play.{GoesOn, Begins, IsPlay, IsPlayable, edited_after}

@@ -1,12 +1,10 @@
 -- How a script grows by one line.
 use Rattle.std.specs.Prelude.{◌≡◌, ◌≢◌, ℕ, List, [], ◌∷◌, ◌++◌}
-use Rattle.std.specs.Str.{IsUtf8}
 use Rattle.script.specs.declared.line.ScriptLine.{ScriptLine}
 use Rattle.script.specs.declared.content.Content.{Content}
 use Rattle.script.specs.declared.error.Refusal.{Refusal}
 use Rattle.script.specs.declared.error.Refusal.TheVariants.{Fault, OutOfMemory}
-use Rattle.script.specs.declared.error.LineFault.{LineFault}
-use Rattle.script.specs.declared.error.LineFault.TheVariants.{NotUtf8, Unbuilt}
+use Rattle.script.specs.declared.error.LineFault.TheVariants.{Unbuilt}
 use Rattle.script.specs.Line.{IsLine}
 use Rattle.script.specs.Play.{IsPlayable}
 use Rattle.script.specs.Script.{IsScript, IsFault}
