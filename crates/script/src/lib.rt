@@ -19,3 +19,6 @@ pub use content::Content;
 pub use error::{LineFault, ScriptError};
 pub use line::ScriptLine;
 pub use read::read_script;
+
+#[cfg(test)]
+mod tests;
