@@ -13,9 +13,7 @@ use Rattle.session_ops.specs.declared.entry.Call.TheVariants.{Client as ByClient
 use Rattle.session_ops.specs.declared.entry.Reply.{Reply}
 use Rattle.session_ops.specs.declared.entry.Reply.TheVariants.{Applied}
 use Rattle.session_ops.specs.declared.entry.Entry.{Entry}
-use Rattle.session_ops.specs.State.{State, state, revision, Misfit, Past, Splits, misfit}
-use Rattle.client_sync.specs.declared.edit_error.EditError.{EditError}
-use Rattle.client_sync.specs.declared.edit_error.EditError.TheVariants.{NoCell, EditTooLong, PastEnd, SplitsPair}
+use Rattle.session_ops.specs.State.{State, state, revision, Misfit, misfit}
 
 -- a cell with a delta in flight, and what was edited since
 pub record Pending : Type 0 where
@@ -34,10 +32,15 @@ abbrev pub pending_of : ℕ → List Pending → Option Pending
 pending_of cell [] = None
 pending_of cell (p ∷ ps) = if p.cell == cell then Some p else pending_of cell ps
 
+-- a text after a buffer, which may be empty and then leaves it
+abbrev pub after_buffer : List Step → List ℕ → List ℕ
+after_buffer [] t = t
+after_buffer (s ∷ b) t = text_after (s ∷ b) t
+
 -- a text with what is in flight and then what is buffered done to it
 abbrev pub with_pending : Option Pending → List ℕ → List ℕ
 with_pending None t = t
-with_pending (Some p) t = text_after p.buffer (text_after p.flight t)
+with_pending (Some p) t = after_buffer p.buffer (text_after p.flight t)
 
 abbrev pub own_source : List Pending → Cell → List ℕ
 own_source ps c = with_pending (pending_of c.id ps) c.source
@@ -53,11 +56,9 @@ held n0 c = resourced (own_source c.pending) (delivered n0 c).book
 -- what an edit makes of a client, or why it refuses
 pub data Edited : Type 0 where
   Done : Client → Edited
-  Refused : EditError → Edited
-
-abbrev pub error_of : Misfit → EditError
-error_of (Past len) = PastEnd len
-error_of (Splits at) = SplitsPair at
+  NoCell : Edited
+  EditTooLong : Edited
+  Unfit : Misfit → Edited
 
 abbrev pub buffered : ℕ → List Step → List Pending → List Pending
 buffered cell d [] = []
@@ -72,11 +73,11 @@ with_edit c cell rev d (Some p) = record c { pending = buffered cell d c.pending
 abbrev pub with_fitting : Client → ℕ → ℕ → List Step → Option Misfit → Edited
 with_fitting c cell rev [] None = Done c
 with_fitting c cell rev (s ∷ d) None = Done (with_edit c cell rev (s ∷ d) (pending_of cell c.pending))
-with_fitting c cell rev d (Some why) = Refused (error_of why)
+with_fitting c cell rev d (Some why) = Unfit why
 
 abbrev pub edited_cell : Client → ℕ → ℕ → List Step → Option Cell → Edited
-edited_cell c cell rev d None = Refused NoCell
-edited_cell c cell rev d (Some own) = if nat_lt 65536 (inserted_by d) then Refused EditTooLong else with_fitting c cell rev d (misfit d own.source)
+edited_cell c cell rev d None = NoCell
+edited_cell c cell rev d (Some own) = if nat_lt 65536 (inserted_by d) then EditTooLong else with_fitting c cell rev d (misfit d own.source)
 
 -- an edit, judged by the client's own text
 abbrev pub edited : Parts → Client → ℕ → List Step → Edited
@@ -114,14 +115,23 @@ with_call c (ByClient n (Delta cell base d)) (Applied rev x) =
     if n == c.number then with_own c cell rev (pending_of cell c.pending) else record c { pending = all_moved cell x c.pending }
 with_call c call answer = c
 
--- the client after the next entry of the history
-abbrev pub received_entry : Client → Entry → Client
-received_entry c e = with_call (record c { seen = c.seen ++ e ∷ [] }) e.call e.reply
+-- the client after the next entry of the history that the notebook opened
+abbrev pub received_entry : Parts → Client → Entry → Client
+received_entry n0 c e = with_call (record c { seen = c.seen ++ e ∷ [] }) e.call e.reply
 
-abbrev pub received : Client → List Entry → Client
-received c [] = c
-received c (e ∷ es) = received (received_entry c e) es
+abbrev pub received : Parts → Client → List Entry → Client
+received n0 c [] = c
+received n0 c (e ∷ es) = received n0 (received_entry n0 c e) es
 
 -- a client that joined with these entries
 abbrev pub joined_client : ℕ → List Entry → Client
 joined_client n seen = record { number = n; seen = seen; pending = []; outbox = [] }
+
+-- the client of a number, and a client put in the place of the one of its number
+abbrev pub client_of : ℕ → List Client → Option Client
+client_of n [] = None
+client_of n (c ∷ cs) = if c.number == n then Some c else client_of n cs
+
+abbrev pub put_client : Client → List Client → List Client
+put_client c [] = []
+put_client c (d ∷ ds) = (if d.number == c.number then c else d) ∷ put_client c ds

@@ -8,7 +8,7 @@ use Rattle.notebook.specs.Book.{cells, found}
 use Rattle.session_ops.specs.declared.entry.Call.{Call}
 use Rattle.session_ops.specs.declared.entry.Call.TheVariants.{Client as ByClient}
 use Rattle.session_ops.specs.declared.entry.Entry.{Entry}
-use Rattle.session_ops.specs.State.{State, Legal, state, taken_by, entries_by, misfit}
+use Rattle.session_ops.specs.State.{State, Legal, state, first_source, taken_by, entries_by, misfit}
 use Rattle.client_sync.specs.Client.{Client, Pending, delivered, held}
 use Rattle.script.specs.declared.content.Content.{Content}
 use Rattle.driver.specs.Turns.{AreMarks}
@@ -54,28 +54,23 @@ abbrev pub text_after_all : List ℕ → List (List Step) → List ℕ
 text_after_all t [] = t
 text_after_all t (x ∷ xs) = text_after_all (text_after x t) xs
 
--- the source with which a cell began
-abbrev pub source_of : Option Cell → List ℕ
-source_of None = []
-source_of (Some c) = c.source
-
 -- each of these live cells has the source with which it began, after all its accepted deltas in order, each once
-abbrev pub AllGrown : Parts → State → List Cell → Type 0
-AllGrown n0 s [] = Unit {0}
-AllGrown n0 s (c ∷ cs) = (c.source ≡ text_after_all (source_of (found c.id (cells n0))) (taken_by c.id s.taken)) × AllGrown n0 s cs
+abbrev pub AllGrown : State → List Cell → Type 0
+AllGrown s [] = Unit {0}
+AllGrown s (c ∷ cs) = (c.source ≡ text_after_all (first_source c.id s.began) (taken_by c.id s.taken)) × AllGrown s cs
 
--- a history that one run could have made: legal, with marks in order, and each entry the player's or an evaluator's
+-- a legal history with marks in their order, whose entries are the player's, under 0, or evaluators'
 pub record IsHistory (n0 : Parts) (workers : ℕ) (h : List Entry) (marks : List ℕ) : Type 0 where
   pub legal : Legal n0 h
   pub marked : AreMarks 0 marks (length h)
   pub others : AllOfRun workers h
 
--- a run that was played to its end
+-- a run that was played to its end: what is printed; the stage at the end, whose calls are the player's entries in order, each once (so each posted message has one entry); its clients; and each source, with each accepted delta in it once
 pub record IsPlayed (n0 : Parts) (notices : List (List ℕ)) (script : Content) (workers : ℕ) (h : List Entry) (marks : List ℕ) (text : List ℕ) : Type 0 where
   pub history : IsHistory n0 workers h marks
   pub printed : transcript n0 notices script h marks ≡ Some text
   pub stage : Stage
-  pub played : finished n0 notices script h marks ≡ Some stage
+  pub played : finished n0 script h marks ≡ Some stage
   pub calls : stage.asked ≡ map call_of (entries_by h 0)
   pub clients : AllClients n0 h stage.clients
-  pub once : AllGrown n0 (state n0 h) (cells (state n0 h).book)
+  pub once : AllGrown (state n0 h) (cells (state n0 h).book)

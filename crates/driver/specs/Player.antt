@@ -10,14 +10,11 @@ use Rattle.session_ops.specs.declared.entry.Call.{Call}
 use Rattle.session_ops.specs.declared.entry.Call.TheVariants.{Client as ByClient}
 use Rattle.session_ops.specs.declared.entry.Reply.{Reply}
 use Rattle.session_ops.specs.declared.entry.Reply.TheVariants.{Accepted, Applied, Refused}
-use Rattle.session_ops.specs.declared.entry.Refusal.TheVariants.{PastEnd as PastEndOf, SplitsPair as SplitsPairOf}
 use Rattle.session_ops.specs.declared.entry.Entry.{Entry}
-use Rattle.session_ops.specs.State.{revision}
+use Rattle.session_ops.specs.State.{revision, refusal_of}
 use Rattle.session_ops.specs.Same.{same_call}
-use Rattle.client_sync.specs.declared.edit_error.EditError.{EditError}
-use Rattle.client_sync.specs.declared.edit_error.EditError.TheVariants.{NoCell, EditTooLong, PastEnd, SplitsPair, OutOfMemory}
-use Rattle.client_sync.specs.Client.{Client, Edited, Done, Refused as EditRefused, edited, received, held, delivered, joined_client}
-use Rattle.transcript.specs.Texts.{refusal_text, reply_text, book_lines}
+use Rattle.client_sync.specs.Client.{Client, Edited, Done, NoCell, EditTooLong, Unfit, edited, received, held, delivered, joined_client, client_of, put_client}
+use Rattle.transcript.specs.Texts.{refusal_text, reply_text, book_lines, as_text}
 use Rattle.script.specs.declared.line.ScriptLine.{ScriptLine}
 use Rattle.script.specs.declared.line.ScriptLine.TheVariants.{Join, Edit, Sync, Show}
 use Rattle.driver.specs.Turns.{Turn, Made, Looked}
@@ -27,12 +24,12 @@ pub record Game : Type 0 where
   pub opening : Parts
   pub names : List (List ℕ)
 
--- where the play stands: the turns not yet used, the clients in order of joining, the calls made, and the lines printed
+-- where the play stands: the turns not yet used, the clients in order of joining, the calls made, and the bytes printed
 pub record Stage : Type 0 where
   pub turns : List Turn
   pub clients : List Client
   pub asked : List Call
-  pub said : List (List ℕ)
+  pub said : List ℕ
 
 abbrev pub or_none : {A B : Type 0} → Option A → (A → Option B) → Option B
 or_none None f = None
@@ -68,18 +65,10 @@ abbrev pub looks : Stage → Option Marked
 looks s = marked s s.turns
 
 abbrev pub say : List (List ℕ) → Stage → Stage
-say lines s = record s { said = s.said ++ lines }
+say lines s = record s { said = s.said ++ as_text lines }
 
 abbrev pub with_clients : List Client → Stage → Stage
 with_clients cs s = record s { clients = cs }
-
-abbrev pub client_of : ℕ → List Client → Option Client
-client_of n [] = None
-client_of n (c ∷ cs) = if c.number == n then Some c else client_of n cs
-
-abbrev pub put_client : Client → List Client → List Client
-put_client c [] = []
-put_client c (d ∷ ds) = (if d.number == c.number then c else d) ∷ put_client c ds
 
 abbrev pub or_no_name : Option (List ℕ) → List ℕ
 or_no_name None = []
@@ -108,19 +97,14 @@ abbrev pub no_client : Game → ℕ → List ℕ → Stage → Stage
 no_client g n word s = say ((name_of g n ++ (codes " " ++ (word ++ codes ": refused NotJoined"))) ∷ []) s
 
 -- edit
-abbrev pub edit_error_text : EditError → List ℕ
-edit_error_text NoCell = codes "NoCell"
-edit_error_text EditTooLong = codes "EditTooLong"
-edit_error_text (PastEnd len) = refusal_text (PastEndOf len)
-edit_error_text (SplitsPair at) = refusal_text (SplitsPairOf at)
-edit_error_text OutOfMemory = codes "OutOfMemory"
-
 abbrev pub edit_line : Game → ℕ → ℕ → List ℕ → List ℕ
 edit_line g n cell answer = name_of g n ++ (codes " edit " ++ (decimal cell ++ (codes ": " ++ answer)))
 
 abbrev pub with_edited : Game → ℕ → ℕ → Stage → Edited → Stage
 with_edited g n cell s (Done c) = say (edit_line g n cell (codes "ok") ∷ []) (with_clients (put_client c s.clients) s)
-with_edited g n cell s (EditRefused why) = say (edit_line g n cell (codes "refused " ++ edit_error_text why) ∷ []) s
+with_edited g n cell s NoCell = say (edit_line g n cell (codes "refused NoCell") ∷ []) s
+with_edited g n cell s EditTooLong = say (edit_line g n cell (codes "refused EditTooLong") ∷ []) s
+with_edited g n cell s (Unfit why) = say (edit_line g n cell (codes "refused " ++ refusal_text (refusal_of why)) ∷ []) s
 
 abbrev pub play_edit : Game → ℕ → ℕ → List Step → Stage → Option Client → Stage
 play_edit g n cell d s None = no_client g n (codes "edit") s
@@ -144,15 +128,15 @@ send_all g [] s = Some s
 send_all g (c ∷ cs) s = or_none (send g c c.outbox s) (send_all g cs)
 
 -- each client receives the entries from its cursor up to the end of these
-abbrev pub receive_all : List Entry → List Client → List Client
-receive_all h [] = []
-receive_all h (c ∷ cs) = received c (drop (length c.seen) h) ∷ receive_all h cs
+abbrev pub receive_all : Game → List Entry → List Client → List Client
+receive_all g h [] = []
+receive_all g h (c ∷ cs) = received g.opening c (drop (length c.seen) h) ∷ receive_all g h cs
 
 -- a round of sync: every client sends what stands in its outbox, then one fetch is received by all
 abbrev pub round : Game → Stage → Option Marked
 round g s =
     or_none (send_all g s.clients s)
-    (λ t. or_none (looks t) (λ m. Some (record { seen = m.seen; stage = with_clients (receive_all m.seen m.stage.clients) m.stage })))
+    (λ t. or_none (looks t) (λ m. Some (record { seen = m.seen; stage = with_clients (receive_all g m.seen m.stage.clients) m.stage })))
 
 abbrev pub all_sent : List Client → Bool
 all_sent [] = true

@@ -1,6 +1,7 @@
 //! The program: words, book and script in, the transcript out.
 #![tactic(auto)]
 
-ghost use Rattle.driver.specs.Headline.{IsPlayed};
-
-pub fn nothing() {}
+mod client;
+mod lines;
+mod revisions;
+mod session;

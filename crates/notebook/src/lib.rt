@@ -5,6 +5,7 @@
 #![tactic(auto)]
 
 mod book;
+mod cells;
 mod parts;
 
 pub use book::Notebook;

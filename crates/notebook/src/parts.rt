@@ -1,5 +1,8 @@
 //! What a notebook consists of.
+ghost use Rattle.std.specs.Prelude.{◌≡◌, IfOk};
+
 use plain_list::Items;
+use std::alloc::AllocError;
 use utf16_text::Text;
 
 /// The number of a cell: 0 for the setup cell. No number is used twice.
@@ -26,6 +29,18 @@ pub struct Saved {
     pub text: Text,
 }
 
+impl Saved {
+    /// An equal output.
+    pub fn copy(&self) -> Result<Saved, AllocError>
+        ensures { IfOk result (λ s. s ≡ self.now) }
+    {
+        Ok(Saved {
+            info: self.info.copy()?,
+            text: self.text.copy()?,
+        })
+    }
+}
+
 /// A cell: its source is edited by deltas over UTF-16 units.
 #[derive(Debug, Drop)]
 pub struct Cell {
@@ -37,6 +52,21 @@ pub struct Cell {
     pub saved: Items<Saved>,
 }
 
+impl Cell {
+    /// An equal cell.
+    pub fn copy(&self) -> Result<Cell, AllocError>
+        ensures { IfOk result (λ c. c ≡ self.now) }
+    {
+        Ok(Cell {
+            id: self.id,
+            kind: self.kind,
+            source: self.source.copy()?,
+            before: self.before.copied_by(|line| line.copy())?,
+            saved: self.saved.copied_by(|output| output.copy())?,
+        })
+    }
+}
+
 /// A section of cells. One with a parent is a branch of that earlier section.
 #[derive(Debug, Drop)]
 pub struct Section {
@@ -46,6 +76,21 @@ pub struct Section {
     pub before: Items<Text>,
     pub parent: Option<SectionId>,
     pub cells: Items<Cell>,
+}
+
+impl Section {
+    /// An equal section.
+    pub fn copy(&self) -> Result<Section, AllocError>
+        ensures { IfOk result (λ s. s ≡ self.now) }
+    {
+        Ok(Section {
+            id: self.id,
+            name: self.name.copy()?,
+            before: self.before.copied_by(|line| line.copy())?,
+            parent: self.parent,
+            cells: self.cells.copied_by(|cell| cell.copy())?,
+        })
+    }
 }
 
 /// The parts of a notebook.
@@ -64,4 +109,22 @@ pub struct Parts {
     pub next_cell: u64,
     /// The number that the next new section takes.
     pub next_section: u64,
+}
+
+impl Parts {
+    /// Equal parts.
+    pub fn copy(&self) -> Result<Parts, AllocError>
+        ensures { IfOk result (λ n. n ≡ self.now) }
+    {
+        Ok(Parts {
+            name: self.name.copy()?,
+            before: self.before.copied_by(|line| line.copy())?,
+            setup: self.setup.copy()?,
+            sections: self.sections.copied_by(|section| section.copy())?,
+            bin: self.bin.copied_by(|cell| cell.copy())?,
+            after: self.after.copied_by(|line| line.copy())?,
+            next_cell: self.next_cell,
+            next_section: self.next_section,
+        })
+    }
 }

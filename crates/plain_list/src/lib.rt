@@ -2,7 +2,8 @@
 //! hold one are plain data: a copy equals what it copies, and a definition can compute one.
 #![tactic(auto)]
 
-ghost use Rattle.std.specs.Prelude.{◌≡◌, [], ◌∷◌, ◌++◌, ◌<◌, ◌↔◌, length, IsTrue, OnOk, OnErr};
+ghost use Rattle.std.specs.Prelude.{◌≡◌, [], ◌∷◌, ◌++◌, ◌<◌, ◌↔◌, length, slice_get, IsTrue, IfOk, OnOk, OnErr};
+ghost use Rattle.std.specs.Fn.{FnReturnsAt};
 
 use std::alloc::{AllocError, Global};
 use std::marker::Model;
@@ -25,6 +26,9 @@ impl<T> Model for Items<T> {
 }
 
 impl<T> Items<T> {
+    ghost use Rattle.std.specs.Borrow.{sem};
+    ghost use Rattle.plain_list.specs.Lends.{LendsItem};
+
     /// The empty list. Takes no memory.
     pub fn new(alloc: Global) -> Items<T>
         ensures { result ≡ [] }
@@ -63,6 +67,15 @@ impl<T> Items<T> {
         self.items.len()
     }
 
+    /// The element at a place that is counted from 0, for writing. The other elements stay.
+    pub fn item_mut(&mut self, at: usize) -> &mut T
+        requires { at < length self.old }
+        ensures* writes_back { sem 𝓛 (LendsItem T.row self.entry at result) }
+        ensures value { slice_get self.old at ≡ Some result.now }
+    {
+        &mut self.items[at]
+    }
+
     /// Whether there is no element.
     pub fn is_empty(&self) -> bool
         ensures { IsTrue result ↔ (self.now ≡ []) }
@@ -72,6 +85,23 @@ impl<T> Items<T> {
 }
 
 impl<T: Drop> Items<T> {
+    /// An equal list, of what `copy` makes of each element: it answers an equal one or want of
+    /// memory.
+    pub fn copied_by<F: Fn(&T) -> Result<T, AllocError>>(
+        &self,
+        copy: F,
+    ) -> Result<Items<T>, AllocError>
+        requires callable { F.IsAlwaysCallable copy }
+        requires copies { (x y : T) → FnReturnsAt F.Fn copy x (Ok y) → y ≡ x }
+        ensures { IfOk result (λ c. c ≡ self.now) }
+    {
+        let mut items = Vec::with_capacity(*self.items.allocator(), self.items.len())?;
+        for item in &self.items {
+            items.push(copy(item)?)?;
+        }
+        Ok(Items { items })
+    }
+
     /// Puts an element at the end. After want of memory the list is as it was, and the element is
     /// dropped.
     pub fn push(&mut self, item: T) -> Result<(), AllocError>
@@ -79,6 +109,31 @@ impl<T: Drop> Items<T> {
         ensures err { OnErr result (self.new ≡ self.old) }
     {
         self.items.push(item)?;
+        Ok(())
+    }
+}
+
+#[cfg(test)]
+mod tests {
+    use super::*;
+    use std::test::Fail;
+
+    fn same(x: &u64) -> Result<u64, AllocError>
+        ensures { IfOk result (λ y. y ≡ x.now) }
+    {
+        Ok(*x)
+    }
+
+    #[test]
+    fn grows_lends_and_copies(rt: HostRuntime) -> Result<(), Fail> {
+        let mut list = Items::new(rt.alloc());
+        assert!(rt; list.is_empty());
+        list.push(7)?;
+        list.push(8)?;
+        *list.item_mut(1) = 9;
+        let copy = list.copied_by(same)?;
+        assert_eq!(rt; copy.as_slice(), [7, 9].as_slice());
+        assert_eq!(rt; Items::from_vec(copy.into_vec()).len(), 2);
         Ok(())
     }
 }

@@ -27,16 +27,31 @@ pub record Known : Type 0 where
   pub cell : ℕ
   pub rev : ℕ
 
--- the notebook, the clients in the order of their joining, the deltas that were applied, in order, and what is known of the clients
+-- the source with which a cell began
+pub record Began : Type 0 where
+  pub cell : ℕ
+  pub source : List ℕ
+
+-- the notebook, the clients in the order of their joining, the sources with which the cells began, the deltas that were applied, in order, and what is known of the clients
 pub record State : Type 0 where
   pub book : Parts
   pub joined : List ℕ
+  pub began : List Began
   pub taken : List Taken
   pub known : List Known
 
--- nobody has joined
+abbrev pub beginnings : List Cell → List Began
+beginnings [] = []
+beginnings (c ∷ cs) = record { cell = c.id; source = c.source } ∷ beginnings cs
+
+-- nobody has joined, and each live cell begins with the source that it has
 abbrev pub opening : Parts → State
-opening n = record { book = n; joined = []; taken = []; known = [] }
+opening n = record { book = n; joined = []; began = beginnings (cells n); taken = []; known = [] }
+
+-- the source with which a cell began
+abbrev pub first_source : ℕ → List Began → List ℕ
+first_source cell [] = []
+first_source cell (b ∷ bs) = if b.cell == cell then b.source else first_source cell bs
 
 abbrev pub is_in : ℕ → List ℕ → Bool
 is_in n [] = false
@@ -129,17 +144,14 @@ state_from s (e ∷ es) = state_from (after s e) es
 abbrev pub state : Parts → List Entry → State
 state n0 h = state_from (opening n0) h
 
--- whether a call may be made: those of clients always
-abbrev pub MayCall : State → Call → Type 0
-MayCall s (Client n op) = Unit {0}
+-- each call has its one answer at its place
+abbrev pub HasReplies : State → List Entry → Type 0
+HasReplies s [] = Unit {0}
+HasReplies s (e ∷ es) = (e.reply ≡ reply s e.call) × HasReplies (after s e) es
 
-abbrev pub LegalFrom : State → List Entry → Type 0
-LegalFrom s [] = Unit {0}
-LegalFrom s (e ∷ es) = MayCall s e.call × ((e.reply ≡ reply s e.call) × LegalFrom (after s e) es)
-
--- each call may be made at its place, and has its one answer
-abbrev pub Legal : Parts → List Entry → Type 0
-Legal n0 h = LegalFrom (opening n0) h
+-- a legal history: a client's call may always be made, and each call has its one answer
+pub record Legal (n0 : Parts) (h : List Entry) : Type 0 where
+  pub replies : HasReplies (opening n0) h
 
 -- the entries under one number, in order
 abbrev pub entries_by : List Entry → ℕ → List Entry

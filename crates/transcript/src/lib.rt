@@ -1,21 +1,17 @@
 //! The printed text of replies and notebooks.
+//!
+//! What the layers above may rely on: each function's bytes are those that `specs/Texts.antt` gives.
+//! Each pushing form puts them after what its string holds. Where memory is wanting it gives
+//! `AllocError`, and the string may then hold a beginning of the text; nothing else fails.
 #![tactic(auto)]
 
-ghost use Rattle.std.specs.Prelude.{◌≡◌, IfOk};
-ghost use Rattle.std.specs.String.{string_bytes};
-ghost use Rattle.transcript.specs.Texts.{refusal_text, reply_text, rev_in, book_lines, as_text};
+mod book;
+mod reply;
+mod words;
 
-use notebook::{CellId, Notebook, Parts};
-use session_ops::{Refusal, Reply};
-use std::alloc::{AllocError, Global};
+pub use book::{book_text, push_book, rev_in};
+pub use reply::{push_refusal, push_reply, reply_text};
+pub use words::{push_named, push_number, push_plain, push_text};
 
-pub fn rev_in(revs: &[(CellId, u64)], cell: CellId) -> u64
-    ensures { result ≡ rev_in revs.now cell }
-{
-    for (id, rev) in revs {
-        if *id == cell {
-            return *rev;
-        }
-    }
-    0
-}
+#[cfg(test)]
+mod tests;

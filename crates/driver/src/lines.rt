@@ -1,0 +1,117 @@
+//! The printed lines of a script.
+ghost use Rattle.std.specs.Prelude.{◌≡◌, ◌++◌, ◌∷◌, [], OnOk, string_bytes, codes};
+ghost use Rattle.transcript.specs.Texts.{as_text};
+ghost use Rattle.driver.specs.Lines.{joined_words, not_joined_words, no_client_words, edit_words, sent_words, sync_words, error_words};
+
+use client_sync::EditError;
+use session_ops::{Refusal, Reply};
+use std::alloc::AllocError;
+use transcript::{push_named, push_plain, push_refusal, push_reply};
+
+/// `NAME joined at K`.
+pub(crate) fn push_joined(out: &mut String, name: &str, at: u64) -> Result<(), AllocError>
+    ensures { OnOk result (string_bytes out.new ≡ string_bytes out.old ++ as_text (joined_words name.now at ∷ [])) }
+{
+    push_plain(out, name)?;
+    push_named(out, " joined at ", at)?;
+    push_plain(out, "\n")
+}
+
+/// `NAME join: R`.
+pub(crate) fn push_not_joined(out: &mut String, name: &str, reply: &Reply) -> Result<(), AllocError>
+    ensures { OnOk result (string_bytes out.new ≡ string_bytes out.old ++ as_text (not_joined_words name.now reply.now ∷ [])) }
+{
+    push_plain(out, name)?;
+    push_plain(out, " join: ")?;
+    push_reply(out, reply)?;
+    push_plain(out, "\n")
+}
+
+/// `NAME WORD: refused NotJoined`.
+pub(crate) fn push_no_client(out: &mut String, name: &str, word: &str) -> Result<(), AllocError>
+    ensures { OnOk result (string_bytes out.new ≡ string_bytes out.old ++ as_text (no_client_words name.now word.now ∷ [])) }
+{
+    push_not_joined_note(out, name, word)?;
+    push_plain(out, "\n")
+}
+
+/// `NAME WORD: refused NotJoined`, without its end.
+fn push_not_joined_note(out: &mut String, name: &str, word: &str) -> Result<(), AllocError>
+    ensures { OnOk result (string_bytes out.new ≡ string_bytes out.old ++ no_client_words name.now word.now) }
+{
+    push_word_of(out, name, word)?;
+    push_plain(out, ": refused NotJoined")?;
+    Ok(())
+}
+
+/// `NAME WORD`.
+fn push_word_of(out: &mut String, name: &str, word: &str) -> Result<(), AllocError>
+    ensures { OnOk result (string_bytes out.new ≡ string_bytes out.old ++ (name.now ++ (codes " " ++ word.now))) }
+{
+    push_plain(out, name)?;
+    push_plain(out, " ")?;
+    push_plain(out, word)
+}
+
+/// `NAME edit CELL: `.
+fn push_edit_head(out: &mut String, name: &str, cell: u64) -> Result<(), AllocError>
+    ensures { OnOk result (string_bytes out.new ≡ string_bytes out.old ++ edit_words name.now cell []) }
+{
+    push_plain(out, name)?;
+    push_named(out, " edit ", cell)?;
+    push_plain(out, ": ")
+}
+
+/// `NAME edit CELL: ok`.
+pub(crate) fn push_edited(out: &mut String, name: &str, cell: u64) -> Result<(), AllocError>
+    ensures { OnOk result (string_bytes out.new ≡ string_bytes out.old ++ as_text (edit_words name.now cell (codes "ok") ∷ [])) }
+{
+    push_edit_head(out, name, cell)?;
+    push_plain(out, "ok\n")
+}
+
+/// `NAME edit CELL: refused WHY`.
+pub(crate) fn push_edit_refused(
+    out: &mut String,
+    name: &str,
+    cell: u64,
+    why: EditError,
+) -> Result<(), AllocError>
+    ensures { OnOk result (string_bytes out.new ≡ string_bytes out.old ++ as_text (edit_words name.now cell (codes "refused " ++ error_words why) ∷ [])) }
+{
+    push_edit_head(out, name, cell)?;
+    push_plain(out, "refused ")?;
+    push_edit_error(out, why)?;
+    push_plain(out, "\n")
+}
+
+/// The name of an edit's error, with its number where it has one.
+fn push_edit_error(out: &mut String, why: EditError) -> Result<(), AllocError>
+    ensures { OnOk result (string_bytes out.new ≡ string_bytes out.old ++ error_words why) }
+{
+    match why {
+        EditError::NoCell => push_plain(out, "NoCell"),
+        EditError::EditTooLong => push_plain(out, "EditTooLong"),
+        EditError::PastEnd { len } => push_refusal(out, &Refusal::PastEnd { len }),
+        EditError::SplitsPair { at } => push_refusal(out, &Refusal::SplitsPair { at }),
+        EditError::OutOfMemory => push_plain(out, "OutOfMemory"),
+    }
+}
+
+/// `NAME sent: R`.
+pub(crate) fn push_sent(out: &mut String, name: &str, reply: &Reply) -> Result<(), AllocError>
+    ensures { OnOk result (string_bytes out.new ≡ string_bytes out.old ++ as_text (sent_words name.now reply.now ∷ [])) }
+{
+    push_plain(out, name)?;
+    push_plain(out, " sent: ")?;
+    push_reply(out, reply)?;
+    push_plain(out, "\n")
+}
+
+/// `sync at K`.
+pub(crate) fn push_sync(out: &mut String, at: u64) -> Result<(), AllocError>
+    ensures { OnOk result (string_bytes out.new ≡ string_bytes out.old ++ as_text (sync_words at ∷ [])) }
+{
+    push_named(out, "sync at ", at)?;
+    push_plain(out, "\n")
+}

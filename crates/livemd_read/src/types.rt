@@ -1,0 +1,62 @@
+//! What reading a book gives.
+use notebook::Notebook;
+use plain_list::Items;
+use std::alloc::AllocError;
+use thiserror::Error;
+
+/// What a notice says of its metadata line.
+#[derive(Clone, Copy, Debug, PartialEq, Eq)]
+pub enum NoticeKind {
+    /// The line names no section that a section may branch from.
+    BadBranch,
+    /// The line stands where it applies to nothing.
+    Misplaced,
+}
+
+/// A metadata line that was read as if it weren't there.
+#[derive(Clone, Copy, Debug, PartialEq, Eq)]
+pub struct Notice {
+    /// The number of the line, from 1.
+    pub line: u64,
+    pub kind: NoticeKind,
+}
+
+/// A book as it was read.
+#[derive(Debug, Drop)]
+pub struct Read {
+    pub notebook: Notebook,
+    /// In the order of lines.
+    pub notices: Items<Notice>,
+}
+
+/// Why a book isn't read. The causes are checked in this order; want of memory may come at any
+/// point.
+#[derive(Clone, Copy, Debug, Drop, PartialEq, Eq, Error)]
+pub enum BookError {
+    /// The book has more than 8,388,608 bytes.
+    #[error("the book has more than 8388608 bytes")]
+    TooLarge,
+    /// The bytes aren't UTF-8: the longest front that is has `at` bytes. Place 0 of the byte FF.
+    #[error("the book is not UTF-8 from byte {at} on")]
+    NotUtf8 { at: u64 },
+    /// The line, counted from 1, is the first that begins with three backticks, with `~~~` or with
+    /// `<!-- livebook:`. Such books aren't read yet.
+    #[error("line {line} has a form that is not built")]
+    Unbuilt { line: u64 },
+    /// The notebook would have more than 1,000 sections.
+    #[error("the book has more than 1000 sections")]
+    TooManySections,
+    /// The notebook would have more than 4,000 cells in its sections, or more than 1,000 code cells
+    /// among them.
+    #[error("the book has too many cells")]
+    TooManyCells,
+    /// Memory ran out.
+    #[error("out of memory")]
+    OutOfMemory,
+}
+
+impl From<AllocError> for BookError {
+    fn from(_: AllocError) -> BookError {
+        BookError::OutOfMemory
+    }
+}

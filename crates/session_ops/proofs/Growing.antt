@@ -1,0 +1,21 @@
+-- A history that grows by an entry.
+use Rattle.std.proofs.Common.{◌≡◌, List, [], ◌∷◌, ◌++◌, refl}
+use Rattle.notebook.specs.declared.parts.Parts.{Parts}
+use Rattle.session_ops.specs.declared.entry.Entry.{Entry}
+use Rattle.session_ops.specs.State.{State, state, state_from, after, opening, reply, Legal, HasReplies}
+
+from-append : (s : State) (h : List Entry) (e : Entry) → state_from s (h ++ e ∷ []) ≡ after (state_from s h) e
+from-append s [] e = refl
+from-append s (x ∷ h) e = from-append (after s x) h e
+
+-- the state after one entry more
+pub state-append : (n0 : Parts) (h : List Entry) (e : Entry) → state n0 (h ++ e ∷ []) ≡ after (state n0 h) e
+state-append n0 h e = from-append (opening n0) h e
+
+replies-from : (s : State) (h : List Entry) (e : Entry) → HasReplies s h → e.reply ≡ reply (state_from s h) e.call → HasReplies s (h ++ e ∷ [])
+replies-from s [] e l r = (r, tt)
+replies-from s (x ∷ h) e l r = (l.0, replies-from (after s x) h e l.1 r)
+
+-- a legal history stays legal by one more call with its answer
+pub legal-append : (n0 : Parts) (h : List Entry) (e : Entry) → Legal n0 h → e.reply ≡ reply (state n0 h) e.call → Legal n0 (h ++ e ∷ [])
+legal-append n0 h e l r = record { replies = replies-from (opening n0) h e l.replies r }

@@ -1,0 +1,45 @@
+//! The printed text of replies.
+ghost use Rattle.std.specs.Prelude.{◌≡◌, ◌++◌, OnOk, IfOk, string_bytes};
+ghost use Rattle.transcript.specs.Texts.{refusal_text, reply_text as text_of_reply};
+
+use crate::words::{push_named, push_plain};
+use session_ops::{Refusal, Reply};
+use std::alloc::{AllocError, Global};
+
+/// Puts a refusal's name after a text, with its number where it has one: `TooNew 3`.
+pub fn push_refusal(out: &mut String, refusal: &Refusal) -> Result<(), AllocError>
+    ensures { OnOk result (string_bytes out.new ≡ string_bytes out.old ++ refusal_text refusal.now) }
+{
+    match *refusal {
+        Refusal::NotJoined => push_plain(out, "NotJoined"),
+        Refusal::AlreadyJoined => push_plain(out, "AlreadyJoined"),
+        Refusal::NoCell => push_plain(out, "NoCell"),
+        Refusal::TooNew { now } => push_named(out, "TooNew ", now),
+        Refusal::TooOld { kept } => push_named(out, "TooOld ", kept),
+        Refusal::PastEnd { len } => push_named(out, "PastEnd ", len),
+        Refusal::SplitsPair { at } => push_named(out, "SplitsPair ", at),
+    }
+}
+
+/// Puts a reply after a text: `ok`, `accepted rev 2` or `refused NoCell`.
+pub fn push_reply(out: &mut String, reply: &Reply) -> Result<(), AllocError>
+    ensures { OnOk result (string_bytes out.new ≡ string_bytes out.old ++ text_of_reply reply.now) }
+{
+    match reply {
+        Reply::Accepted => push_plain(out, "ok"),
+        Reply::Applied { rev, .. } => push_named(out, "accepted rev ", *rev),
+        Reply::Refused(why) => {
+            push_plain(out, "refused ")?;
+            push_refusal(out, why)
+        }
+    }
+}
+
+/// A reply's text: `ok`, `accepted rev 2` or `refused NoCell`.
+pub fn reply_text(alloc: Global, reply: &Reply) -> Result<String, AllocError>
+    ensures { IfOk result (λ s. string_bytes s ≡ text_of_reply reply.now) }
+{
+    let mut out = String::new(alloc);
+    push_reply(&mut out, reply)?;
+    Ok(out)
+}

@@ -1,0 +1,41 @@
+-- What contracts see of a lock and of its passes.
+use Rattle.std.specs.Prelude.{◌≡◌, ◌≢◌, ℕ, zero, suc, List, [], ◌∷◌, ◌++◌, Option, Some, All}
+use mathlib.Core.List.{IsPrefix}
+use Rattle.atomic_table.specs.Seated.{TableId}
+use Rattle.turn.specs.Histories.{entries_by}
+
+-- A lock: which it is, the opening of the state that it was made with, and how many passes it has
+pub record Lock (O : Type 0) : Type 0 where
+  pub home : TableId
+  pub opening : O
+  pub seats : ℕ
+
+-- A pass: whose it is, the opening, its number, and the list that it has seen
+pub record Pass (O E : Type 0) : Type 0 where
+  pub home : TableId
+  pub opening : Option O
+  pub number : ℕ
+  pub seen : List E
+
+module _ {O E : Type 0} where
+  -- the pass is one of the lock's
+  abbrev pub Belongs : Pass O E → Lock O → Type 0
+  Belongs p t = (p.home ≡ t.home) × (p.opening ≡ Some t.opening)
+
+  -- the pass of this number, before its first turn
+  abbrev pub fresh_pass : TableId → O → ℕ → Pass O E
+  fresh_pass home opening i = record { home = home; opening = Some opening; number = i; seen = [] }
+
+  -- the passes of the numbers below n, in order
+  abbrev pub fresh_passes : TableId → O → ℕ → List (Pass O E)
+  fresh_passes home opening zero = []
+  fresh_passes home opening (suc n) = fresh_passes home opening n ++ fresh_pass home opening n ∷ []
+
+  module _ (number_of : E → ℕ) where
+    -- each of these passes has seen a beginning of the list, in which all entries under its number are
+    abbrev pub HaveSeen : List (Pass O E) → List E → Type 0
+    HaveSeen passes log = All (λ p. IsPrefix p.seen log × (entries_by number_of p.number log ≡ entries_by number_of p.number p.seen)) passes
+
+    -- the list has no entry under a number that none of these passes has
+    abbrev pub IsAllOf : List (Pass O E) → List E → Type 0
+    IsAllOf passes log = (q : ℕ) → All (λ p. p.number ≢ q) passes → entries_by number_of q log ≡ []
