@@ -32,3 +32,11 @@ IsPlay (name ∷ other ∷ names) lines = ⊥
 -- what each script keeps
 abbrev pub IsPlayable : Content → Type 0
 IsPlayable script = IsPlay script.names script.lines
+
+-- whether an edit stands in lines that no sync has followed, where that is said of those before
+abbrev pub edited_after : Bool → List ScriptLine → Bool
+edited_after edited [] = edited
+edited_after edited (Join client ∷ after) = edited_after edited after
+edited_after edited (Edit client cell delta ∷ after) = edited_after true after
+edited_after edited (Sync ∷ after) = edited_after false after
+edited_after edited (Show client ∷ after) = edited_after edited after

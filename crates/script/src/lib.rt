@@ -6,8 +6,19 @@
 
 mod book;
 mod content;
+mod cut;
+mod delta_text;
+mod error;
+mod form;
 mod line;
+mod read;
+mod words;
 
 pub use book::Script;
 pub use content::Content;
+pub use error::{LineFault, ScriptError};
 pub use line::ScriptLine;
+pub use read::read_script;
+
+#[cfg(test)]
+mod tests;
