@@ -3,6 +3,7 @@ pub mod Frame
 pub mod Holding
 pub mod Once
 pub mod PlayerLaws
+pub mod PlayingLaws
 pub mod RevisionLaws
 pub mod SessionLaws
 pub mod TurnLaws

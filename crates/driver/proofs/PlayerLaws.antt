@@ -296,7 +296,7 @@ show-nobody g p p' s n before out st nobody same printed =
       said = refl;
     })
 
-agree-all : (f k : ℕ → ℕ) → ((n : ℕ) → f n ≡ k n) → (cs : List Cell) → Agree f k cs
+pub agree-all : (f k : ℕ → ℕ) → ((n : ℕ) → f n ≡ k n) → (cs : List Cell) → Agree f k cs
 agree-all f k h [] = tt
 agree-all f k h (c ∷ cs) = (h c.id, agree-all f k h cs)
 

@@ -1,7 +1,10 @@
+pub mod Ends
 pub mod Headline
 pub mod Holder
 pub mod Lines
 pub mod Player
+pub mod Playing
+pub mod Program
 pub mod Revisions
 pub mod Session
 pub mod Standing

@@ -3,6 +3,9 @@
 
 mod client;
 mod lines;
+mod outcome;
 mod player;
 mod revisions;
 mod session;
+
+pub use outcome::{Outcome, Report, RunFault};

@@ -1,13 +1,15 @@
 //! The player: it plays the lines of a script over the session and the client, and prints.
-ghost use Rattle.std.specs.Prelude.{◌≡◌, ℕ, ◌∷◌, [], ◌++◌, OnOk, IfOk, None, List, length, string_bytes, false};
+ghost use Rattle.std.specs.Prelude.{◌≡◌, ℕ, ◌∷◌, [], ◌++◌, OnOk, IfOk, None, List, Bool, slice_get, length, string_bytes, false};
 ghost use Rattle.notebook.specs.declared.parts.Parts.{Parts};
 ghost use Rattle.session_ops.specs.declared.entry.Entry.{Entry};
 ghost use Rattle.client_sync.specs.Client.{Client as Holder};
 ghost use Rattle.script.specs.declared.line.ScriptLine.TheVariants.{Join, Edit, Sync, Show};
-ghost use Rattle.driver.specs.Player.{Game, Stage, name_of};
+ghost use Rattle.std.specs.Str.{encode_utf8_all};
+ghost use Rattle.driver.specs.Player.{Game, Stage, name_of, or_no_name};
 ghost use Rattle.driver.specs.Session.{IsSession};
 ghost use Rattle.driver.specs.Holder.{Mirrors};
-ghost use Rattle.driver.specs.Standing.{Stands, Waits, HasPlayed, HasEdited, HasSent, HasExchanged, HasExchangedAny, with_posted};
+ghost use Rattle.driver.specs.Playing.{IsReady};
+ghost use Rattle.driver.specs.Standing.{Stands, Waits, after_line, HasPlayed, HasEdited, HasSent, HasExchanged, HasExchangedAny, with_posted};
 
 use crate::client::{Client, Posted};
 use crate::lines::{
@@ -18,9 +20,11 @@ use crate::session::Session;
 use delta::Delta;
 use notebook::{CellId, Notebook};
 use plain_list::Items;
+use script::ScriptLine;
 use session_ops::Reply;
 use std::alloc::{AllocError, Global};
 use transcript::push_book;
+use utf16_text::Text;
 
 /// The session, its one client once it has joined, and the marks: for each turn that made no entry,
 /// the history's length that it found.
@@ -41,6 +45,37 @@ impl Player {
             client: None,
             marks: Items::new(alloc),
         })
+    }
+
+    /// Plays a line and gives what it prints. After want of memory the player is of no more use.
+    pub(crate) fn line(
+        &mut self,
+        alloc: Global,
+        names: &[Text],
+        line: &ScriptLine,
+    ) -> Result<String, AllocError>
+        ensures { (n0 : Parts) → (s : Stage) → (edited : Bool) → Stands (record { opening = n0; names = names.now }) self.old s → IsReady edited self.old.client line.now → Waits edited self.old.client → IfOk result (λ piece. HasPlayed (record { opening = n0; names = names.now }) line.now self.old self.new s [] (string_bytes piece) × Waits (after_line line.now edited) self.new.client) }
+    {
+        let mut out = String::new(alloc);
+        match line {
+            ScriptLine::Join { client } => {
+                self.join(name_in(names, *client), *client, &mut out)?;
+            }
+            ScriptLine::Edit {
+                client,
+                cell,
+                delta,
+            } => {
+                self.edit(name_in(names, *client), *client, *cell, delta, &mut out)?;
+            }
+            ScriptLine::Sync => {
+                self.sync(name_in(names, 0), &mut out)?;
+            }
+            ScriptLine::Show { client } => {
+                self.show(name_in(names, *client), *client, &mut out)?;
+            }
+        }
+        Ok(out)
     }
 
     /// `join NAME`.
@@ -195,4 +230,14 @@ fn send(
     own.confirm(cell, &reply);
     push_sent(out, name, &reply)?;
     Ok(())
+}
+
+/// A client's name; the empty text where there is none.
+fn name_in(names: &[Text], client: u32) -> &str
+    ensures { result.now ≡ encode_utf8_all (or_no_name (slice_get names.now client)) }
+{
+    match names.get(client as usize) {
+        Some(name) => name.as_str(),
+        None => "",
+    }
 }

@@ -135,6 +135,20 @@ impl Session {
         Ok(Reply::Applied { rev, delta: told })
     }
 
+    /// The history, when the session is done. Takes no memory.
+    pub(crate) fn into_history(self) -> Items<Entry>
+        ensures { result ≡ self.history }
+    {
+        let Session {
+            alloc: _,
+            book: _,
+            revs: _,
+            joined: _,
+            history,
+        } = self;
+        history
+    }
+
     /// Refuses a call; the history alone grows.
     fn refuse(&mut self, by: u32, client: u32, op: Op, why: Refusal) -> Result<Reply, AllocError>
         ensures ok { (n0 : Parts) → IsSession n0 self.old → reply (state n0 self.old.history) (Client client op) ≡ RefusedFor why → IfOk result (HasAnswered n0 by (Client client op) self.old self.new) }

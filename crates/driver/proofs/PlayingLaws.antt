@@ -1,0 +1,200 @@
+-- Lines played one after the other, and the end.
+use Rattle.std.proofs.Common.{◌≡◌, ◌≢◌, ℕ, ◌+◌, ◌<◌, ◌≤◌, Bool, true, false, List, [], ◌∷◌, ◌++◌, length, map, drop, take, get_or, Option, Some, None, codes, refl, sym, ap, subst, ◌∙◌, arith, append_assoc, inl, inr, ◌⊎◌}
+use Rattle.std.proofs.lemmas.List.{length-append, append-nil, drop_more}
+use Rattle.std.specs.List.{flat_map}
+use Rattle.std.proofs.lemmas.Grind.{flat_map-append}
+use Rattle.notebook.specs.declared.parts.Parts.{Parts}
+use Rattle.notebook.specs.Book.{cells}
+use Rattle.notebook.specs.Rules.{AreDistinct, cell_number}
+use Rattle.session_ops.specs.declared.entry.Entry.{Entry}
+use Rattle.session_ops.specs.State.{state, revision, entries_by}
+use Rattle.std.proofs.lemmas.Bool.Decides.{nat_tests}
+use Rattle.delta.specs.Moves.{text_after}
+use Rattle.session_ops.specs.State.{misfit}
+use Rattle.client_sync.specs.Client.{Client as Holder, Pending, held, delivered}
+use Rattle.script.specs.declared.line.ScriptLine.{ScriptLine}
+use Rattle.script.specs.declared.line.ScriptLine.TheVariants.{Join, Edit, Sync, Show}
+use Rattle.script.specs.declared.content.Content.{Content}
+use Rattle.script.specs.Play.{GoesOn, Begins, IsPlay, IsPlayable}
+use Rattle.transcript.specs.Texts.{as_text, ended_line, book_lines, rev_in}
+use Rattle.transcript.proofs.Agreeing.{book_lines-agree}
+use Rattle.book_outside.specs.Outside.{AppendsAll}
+use Rattle.driver.specs.Turns.{Turn, Looked, turns_from, AreMarks}
+use Rattle.driver.specs.Player.{Game, Stage, or_none, play, play_line}
+use Rattle.driver.specs.Transcript.{game, begun, stage_after, settled, finished, ending, transcript, end_lines, status_lines}
+use Rattle.driver.specs.Headline.{AllOfRun, AllClients, IsClientOf, AllFit, FitsCell, IsHistory, IsPlayed, call_of}
+use Rattle.driver.specs.Session.{IsSession}
+use Rattle.driver.specs.Holder.{Mirrors, IsPosted, FitsIn}
+use Rattle.driver.specs.Standing.{Stands, StandsFor, Waits, HasPlayed, after_line}
+use Rattle.driver.specs.Playing.{IsReady, MayFollow, HavePlayed, IsOnTheWay}
+use Rattle.driver.specs.declared.client.Client.{Client}
+use Rattle.driver.specs.declared.client.Posted.{Posted}
+use Rattle.driver.specs.declared.player.Player.{Player}
+use Rattle.driver.proofs.Frame.{with_more, IsMore, play-more}
+use Rattle.driver.proofs.Holding.{holds-all}
+use Rattle.driver.proofs.Once.{all-grown}
+use Rattle.driver.proofs.PlayerLaws.{turns-looked, marks-push, agree-all}
+
+-- what may come after a line
+follow-going : (edited : Bool) (o o' : Option Client) (l : ScriptLine) (rest : List ScriptLine) → GoesOn edited (l ∷ rest) → IsReady edited o l × MayFollow (after_line l edited) o' rest
+follow-going edited o o' (Join n) rest h = absurd h
+follow-going edited o o' (Edit n cell d) rest h = ((h.0, h.1), inl h.2)
+follow-going edited o o' Sync rest h = (tt, inl h)
+follow-going edited o o' (Show n) rest h = (h.0, inl h.1)
+
+follow-begin : (edited : Bool) (o o' : Option Client) (l : ScriptLine) (rest : List ScriptLine) → o ≡ None → Begins (l ∷ rest) → IsReady edited o l × MayFollow (after_line l edited) o' rest
+follow-begin edited o o' (Join n) rest e h = ((h.0, e), inl h.1)
+follow-begin edited o o' (Edit n cell d) rest e h = absurd h
+follow-begin edited o o' Sync rest e h = absurd h
+follow-begin edited o o' (Show n) rest e h = absurd h
+
+pub follow-next : (edited : Bool) (o o' : Option Client) (l : ScriptLine) (rest : List ScriptLine) → MayFollow edited o (l ∷ rest) → IsReady edited o l × MayFollow (after_line l edited) o' rest
+follow-next edited o o' l rest (inl h) = follow-going edited o o' l rest h
+follow-next edited o o' l rest (inr h) = follow-begin edited o o' l rest h.0 h.1
+
+follow-all : (names : List (List ℕ)) (lines : List ScriptLine) → IsPlay names lines → MayFollow false None lines
+follow-all [] [] h = inl tt
+follow-all [] (l ∷ ls) h = absurd h
+follow-all (name ∷ []) lines h = inr (refl, h.1)
+follow-all (name ∷ other ∷ names) lines h = absurd h
+
+-- a script may be played from its begin
+pub follow-script : (content : Content) → IsPlayable content → MayFollow false None content.lines
+follow-script content h = follow-all content.names content.lines h
+
+-- written pieces
+pub written-more : (w0 w1 w2 : Option (List ℕ)) (xs ys : List ℕ) → AppendsAll w0 xs w1 → AppendsAll w1 ys w2 → AppendsAll w0 (xs ++ ys) w2
+written-more None w1 w2 xs ys h k = tt
+written-more (Some w) w1 w2 xs ys h k = subst (λ o. AppendsAll o ys w2) h k ∙ ap Some (append_assoc w xs ys)
+
+pub written-none : (w : Option (List ℕ)) → AppendsAll w [] w
+written-none None = tt
+written-none (Some w) = ap Some (sym (append-nil w))
+
+bind-bind : (a : Option Stage) (f : Stage → Option Stage) (k : Stage → Option Stage) → or_none (or_none a f) k ≡ or_none a (λ x. or_none (f x) k)
+bind-bind None f k = refl
+bind-bind (Some x) f k = refl
+
+bind-same : (a : Option Stage) (f k : Stage → Option Stage) → ((x : Stage) → f x ≡ k x) → or_none a f ≡ or_none a k
+bind-same None f k h = refl
+bind-same (Some x) f k h = h x
+
+-- lines and then others
+play-append : (g : Game) (xs ys : List ScriptLine) (s : Stage) → play g (xs ++ ys) s ≡ or_none (play g xs s) (play g ys)
+play-append g [] ys s = refl
+play-append g (x ∷ xs) ys s =
+    bind-same (play_line g x s) (play g (xs ++ ys)) (λ t. or_none (play g xs t) (play g ys)) (λ t. play-append g xs ys t) ∙ sym (bind-bind (play_line g x s) (play g xs) (play g ys))
+
+more-of : (ts more : List Turn) (s : Stage) (xs : List ScriptLine) (g : Game) (t : Stage) → play g xs (record s { turns = ts }) ≡ Some t → play g xs (record s { turns = ts ++ more }) ≡ Some (with_more more t)
+more-of ts more s xs g t e = subst (λ o. IsMore (with_more more) o (play g xs (record s { turns = ts ++ more }))) e (play-more more g xs (record s { turns = ts }))
+
+used-up : (more : List Turn) (t : Stage) → t.turns ≡ [] → with_more more t ≡ record t { turns = more }
+used-up more t e = ap (λ ts. let k : Stage = record t { turns = ts ++ more } in k) e
+
+play-one : (g : Game) (l : ScriptLine) (s t : Stage) → play_line g l s ≡ Some t → play g (l ∷ []) s ≡ Some t
+play-one g l s t e = ap (λ o. or_none o (play g [])) e
+
+-- one more line was played
+pub line-more : (g : Game) (xs : List ScriptLine) (l : ScriptLine) (p0 p1 p2 : Player) (s : Stage) (w0 w1 w2 : Option (List ℕ)) (bytes : List ℕ) → (x : HavePlayed g xs p0 p1 s w0 w1) → HasPlayed g l p1 p2 x.stage [] bytes → AppendsAll w1 bytes w2 → HavePlayed g (xs ++ l ∷ []) p0 p2 s w0 w2
+line-more g xs l p0 p1 p2 s w0 w1 w2 bytes x y w =
+    record {
+      stage = y.stage;
+      more = x.more ++ y.more;
+      grown = y.grown ∙ (ap (λ ts. ts ++ y.more) x.grown ∙ append_assoc (turns_from [] p0.session.history p0.marks) x.more y.more);
+      played = play-append g xs (l ∷ []) (record s { turns = x.more ++ y.more })
+          ∙ (ap (λ o. or_none o (play g (l ∷ []))) (more-of x.more y.more s xs g x.stage x.played) ∙ (ap (play g (l ∷ [])) (used-up y.more x.stage x.stands.used) ∙ play-one g l (record x.stage { turns = y.more }) y.stage y.played));
+      stands = y.stands;
+      piece = x.piece ++ y.piece;
+      said = y.said ∙ (ap (λ z. z ++ y.piece) x.said ∙ append_assoc s.said x.piece y.piece);
+      written = written-more w0 w1 w2 x.piece y.piece x.written (subst (λ z. AppendsAll w1 z w2) y.printed w);
+    }
+
+-- before the first line
+pub none-played : (g : Game) (p : Player) (s : Stage) (w : Option (List ℕ)) → Stands g p s → HavePlayed g [] p p s w w
+none-played g p s w st =
+    record {
+      stage = record s { turns = [] };
+      more = [];
+      grown = sym (append-nil (turns_from [] p.session.history p.marks));
+      played = refl;
+      stands = record { session = st.session; used = refl; marks = st.marks; run = st.run; asked = st.asked; clients = st.clients };
+      piece = [];
+      said = sym (append-nil s.said);
+      written = written-none w;
+    }
+
+-- the stage before the first line
+pub first-stage : (n0 : Parts) (names : List (List ℕ)) (p : Player) → IsSession n0 p.session → p.session.history ≡ [] → p.client ≡ None → p.marks ≡ [] → Stands (record { opening = n0; names = names }) p (begun [] [])
+first-stage n0 names p is eh ec em =
+    record {
+      session = is;
+      used = refl;
+      marks = rw (em, eh) tt;
+      run = rw eh tt;
+      asked = rw eh refl;
+      clients = subst (λ o. StandsFor n0 p.session.history o []) (sym ec) refl;
+    }
+
+-- an empty buffer fits every text
+empty-fits : (t : List ℕ) → misfit [] t ≡ None
+empty-fits t = grind (arith, nat_tests)
+
+-- the client of the stage is one of the history
+fit-of : (n0 : Parts) (h : List Entry) (o : Option Posted) (m : Holder) → IsPosted (state n0 h) o m → m.seen ≡ h → AllFit m.pending (cells (delivered n0 m).book)
+fit-of n0 h None m posted seen = subst (λ ps. AllFit ps (cells (delivered n0 m).book)) (sym posted.0) tt
+fit-of n0 h (Some p) m posted seen =
+    let fits : FitsIn (state n0 h).book p.cell p.delta = posted.1.1.1 in
+    subst (λ ps. AllFit ps (cells (delivered n0 m).book)) (sym posted.0) (rw (seen, fits.there) ((fits.fits, empty-fits (text_after p.delta fits.own.source)), tt))
+
+client-of : (n0 : Parts) (h : List Entry) (c : Client) (m : Holder) → Mirrors n0 h c m → IsClientOf n0 h m
+client-of n0 h c m mir =
+    record {
+      cursor = ([], sym (append-nil m.seen ∙ mir.seen));
+      edits = fit-of n0 h c.posted m mir.posted mir.seen;
+      agrees = λ all quiet. holds-all n0 h m all quiet;
+    }
+
+clients-of : (n0 : Parts) (h : List Entry) (o : Option Client) (ms : List Holder) → StandsFor n0 h o ms → AllClients n0 h ms
+clients-of n0 h None ms e = subst (AllClients n0 h) (sym e) tt
+clients-of n0 h (Some c) ms x = subst (AllClients n0 h) (sym x.1.0) (client-of n0 h c x.0 x.1.1.0, tt)
+
+-- the end prints what the definition says
+end-known : (n0 : Parts) (p : Player) → IsSession n0 p.session → codes "end" ∷ (book_lines (rev_in p.session.revs) p.session.book ++ status_lines p.session.book) ≡ end_lines (state n0 p.session.history)
+end-known n0 p is =
+    let st = state n0 p.session.history in
+    ap (λ ls. codes "end" ∷ (ls ++ status_lines p.session.book)) (book_lines-agree (rev_in p.session.revs) (revision st) p.session.book (agree-all (rev_in p.session.revs) (revision st) is.holds.revs (cells p.session.book)))
+    ∙ ap (λ b. codes "end" ∷ (book_lines (revision st) b ++ status_lines b)) is.holds.book
+
+-- a history that was played
+pub history-of : (g : Game) (p : Player) (s : Stage) → Stands g p s → IsHistory g.opening 0 p.session.history p.marks
+history-of g p s st = record { legal = st.session.legal; marked = st.marks; others = st.run }
+
+-- the end of the play
+pub all-played : (n0 : Parts) (content : Content) (p0 p1 p2 : Player) (w0 w1 w2 : Option (List ℕ)) (bytes : List ℕ) → AreDistinct (map cell_number (cells n0)) → p0.session.history ≡ [] → p0.marks ≡ [] → (x : HavePlayed (game n0 content) content.lines p0 p1 (begun [] []) w0 w1)
+    → p2.session ≡ p1.session → p2.marks ≡ p1.marks ++ length p1.session.history ∷ [] → bytes ≡ as_text (codes "end" ∷ (book_lines (rev_in p1.session.revs) p1.session.book ++ status_lines p1.session.book)) → AppendsAll w1 bytes w2
+    → (text : List ℕ) × (IsPlayed n0 [] content 0 p2.session.history p2.marks text × AppendsAll w0 text w2)
+all-played n0 content p0 p1 p2 w0 w1 w2 bytes d eh em x es ems eb w =
+    let g : Game = game n0 content in
+    let h : List Entry = p1.session.history in
+    let ms : List ℕ = p1.marks ++ length h ∷ [] in
+    let grown : turns_from [] h p1.marks ≡ x.more = x.grown ∙ ap (λ ts. ts ++ x.more) (rw (eh, em) refl) in
+    let turns : turns_from [] h ms ≡ x.more ++ Looked h ∷ [] = turns-looked h p1.marks ∙ ap (λ ts. ts ++ Looked h ∷ []) grown in
+    let last : Stage = record x.stage { turns = [] } in
+    let lines : stage_after n0 content content.lines h ms ≡ Some (record x.stage { turns = Looked h ∷ [] })
+        = ap (λ ts. let k : Stage = record { turns = ts; clients = []; asked = []; said = [] } in play g content.lines k) turns
+          ∙ (more-of x.more (Looked h ∷ []) (begun [] []) content.lines g x.stage x.played ∙ ap Some (used-up (Looked h ∷ []) x.stage x.stands.used)) in
+    let done : finished n0 content h ms ≡ Some last = ap (λ o. or_none o (settled g)) lines in
+    let text : List ℕ = x.stage.said ++ as_text (end_lines (state n0 h)) in
+    let printed : transcript n0 [] content h ms ≡ Some text = ap (λ o. or_none o (λ s. ending n0 [] h s s.turns)) done in
+    let tail : bytes ≡ as_text (end_lines (state n0 h)) = eb ∙ ap as_text (end-known n0 p1 x.stands.session) in
+    (text,
+      (rw (es, ems)
+       (record {
+        history = record { legal = x.stands.session.legal; marked = marks-push 0 p1.marks (length h) (omega arith) x.stands.marks; others = x.stands.run };
+        printed = printed;
+        stage = last;
+        played = done;
+        calls = x.stands.asked;
+        clients = clients-of n0 h p1.client x.stage.clients x.stands.clients;
+        once = all-grown n0 h d;
+      }), subst (λ z. AppendsAll w0 z w2) (ap (λ z. z ++ as_text (end_lines (state n0 h))) (sym x.said)) (written-more w0 w1 w2 x.piece (as_text (end_lines (state n0 h))) x.written (subst (λ z. AppendsAll w1 z w2) tail w))))

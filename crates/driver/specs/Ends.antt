@@ -1,0 +1,25 @@
+-- How playing a script ends.
+use Rattle.std.specs.Prelude.{◌≡◌, ℕ, List, [], Option}
+use Rattle.book_outside.specs.Outside.{Rose, AppendsAll}
+use Rattle.notebook.specs.declared.parts.Parts.{Parts}
+use Rattle.script.specs.declared.content.Content.{Content}
+use Rattle.driver.specs.Headline.{IsHistory, IsPlayed}
+use Rattle.driver.specs.declared.outcome.Report.{Report}
+use Rattle.driver.specs.declared.play.Played.{Played}
+use Rattle.driver.specs.declared.play.Played.TheVariants.{Done, SinkFailed, OutOfMemory}
+
+-- the script was played, and its transcript written
+pub record IsPlayedOut (n0 : Parts) (content : Content) (before after : Option (List ℕ)) (report : Report) : Type 0 where
+  pub text : List ℕ
+  pub played : IsPlayed n0 [] content 0 report.history report.marks text
+  pub written : AppendsAll before text after
+
+-- the sink failed, and the history so far is legal
+pub record IsCutOff (n0 : Parts) (faults faults' : ℕ) (report : Report) : Type 0 where
+  pub history : IsHistory n0 0 report.history report.marks
+  pub rose : Rose faults faults'
+
+abbrev pub IsPlayedSo : Parts → Content → ℕ → ℕ → Option (List ℕ) → Option (List ℕ) → Played → Type 0
+IsPlayedSo n0 content kf kf' before after (Done report) = IsPlayedOut n0 content before after report
+IsPlayedSo n0 content kf kf' before after (SinkFailed report) = IsCutOff n0 kf kf' report
+IsPlayedSo n0 content kf kf' before after OutOfMemory = Unit {0}

@@ -1,0 +1,186 @@
+//! Playing a script over a notebook, with what is printed written to a sink.
+ghost use Rattle.std.specs.Prelude.{◌≡◌, ℕ, ◌≤◌, ◌∷◌, [], ◌++◌, List, Bool, OnOk, IfOk, OnErr, IsErrOf, None, codes, length, map, string_bytes};
+ghost use Rattle.book_outside.specs.Outside.{Rose, AppendsAll};
+ghost use Rattle.notebook.specs.declared.parts.Parts.{Parts};
+ghost use Rattle.notebook.specs.Book.{cells};
+ghost use Rattle.notebook.specs.Rules.{AreDistinct, cell_number};
+ghost use Rattle.script.specs.Play.{IsPlayable};
+ghost use Rattle.transcript.specs.Texts.{as_text, book_lines, rev_in};
+ghost use Rattle.driver.specs.Player.{Game, Stage};
+ghost use Rattle.driver.specs.Transcript.{status_lines};
+ghost use Rattle.driver.specs.Headline.{IsHistory, IsPlayed};
+ghost use Rattle.driver.specs.Session.{IsSession};
+ghost use Rattle.driver.specs.Standing.{Stands, Waits, HasPlayed, after_line};
+ghost use Rattle.driver.specs.Playing.{IsReady, MayFollow, IsOnTheWay};
+ghost use Rattle.driver.specs.Ends.{IsPlayedSo, IsCutOff};
+
+use crate::outcome::Report;
+use crate::player::Player;
+use crate::statuses::push_statuses;
+use book_outside::{Sink, SinkError};
+use notebook::Notebook;
+use script::{Content, ScriptLine};
+use std::alloc::{AllocError, Global};
+use transcript::{push_book, push_plain};
+use utf16_text::Text;
+
+/// Why playing ended early.
+#[derive(Clone, Copy, Debug, PartialEq, Eq)]
+pub(crate) enum PlayFault {
+    SinkFailed,
+    OutOfMemory,
+}
+
+/// How a script was played.
+#[derive(Drop)]
+pub(crate) enum Played {
+    /// To its end, and all was written.
+    Done(Report),
+    /// The sink failed; the report is of the history so far.
+    SinkFailed(Report),
+    OutOfMemory,
+}
+
+/// Plays a script over a notebook.
+pub(crate) fn play<K: Sink>(
+    alloc: Global,
+    book: Notebook,
+    content: &Content,
+    sink: &mut K,
+) -> Played
+    requires { IsPlayable content.now }
+    ensures played { IsPlayedSo book content.now (K.faults sink.old) (K.faults sink.new) (K.written sink.old) (K.written sink.new) result }
+{
+    let mut player = match Player::new(alloc, book) {
+        Ok(player) => player,
+        Err(_) => return Played::OutOfMemory,
+    };
+    match play_all(alloc, &mut player, content, sink) {
+        Ok(()) => Played::Done(report_of(player)),
+        Err(PlayFault::SinkFailed) => Played::SinkFailed(report_of(player)),
+        Err(PlayFault::OutOfMemory) => Played::OutOfMemory,
+    }
+}
+
+/// What the player leaves.
+fn report_of(player: Player) -> Report
+    ensures { (result.history ≡ player.session.history) × (result.marks ≡ player.marks) }
+{
+    let Player {
+        session,
+        client: _,
+        marks,
+    } = player;
+    Report {
+        history: session.into_history(),
+        marks,
+    }
+}
+
+/// Plays all lines and the end.
+fn play_all<K: Sink>(
+    alloc: Global,
+    player: &mut Player,
+    content: &Content,
+    sink: &mut K,
+) -> Result<(), PlayFault>
+    requires { IsPlayable content.now }
+    ensures played { (n0 : Parts) → IsSession n0 player.old.session → player.old.session.history ≡ [] → player.old.client ≡ None → player.old.marks ≡ [] → AreDistinct (map cell_number (cells n0)) → OnOk result ((text : List ℕ) × (IsPlayed n0 [] content.now 0 player.new.session.history player.new.marks text × AppendsAll (K.written sink.old) text (K.written sink.new))) }
+    ensures failed { (n0 : Parts) → IsSession n0 player.old.session → player.old.session.history ≡ [] → player.old.client ≡ None → player.old.marks ≡ [] → IsErrOf result PlayFault.SinkFailed → IsHistory n0 0 player.new.session.history player.new.marks }
+    ensures counts { K.faults sink.old ≤ K.faults sink.new }
+    ensures rose { IsErrOf result PlayFault.SinkFailed → Rose (K.faults sink.old) (K.faults sink.new) }
+{
+    play_lines(
+        alloc,
+        player,
+        content.names.as_slice(),
+        content.lines.as_slice(),
+        sink,
+    )?;
+    let text = end_text(alloc, player)?;
+    write_piece(sink, text.as_str())?;
+    Ok(())
+}
+
+/// Plays lines one after the other; what each prints is one write.
+fn play_lines<K: Sink>(
+    alloc: Global,
+    player: &mut Player,
+    names: &[Text],
+    lines: &[ScriptLine],
+    sink: &mut K,
+) -> Result<(), PlayFault>
+    ensures played { (n0 : Parts) → (s : Stage) → (edited : Bool) → Stands (record { opening = n0; names = names.now }) player.old s → MayFollow edited player.old.client lines.now → Waits edited player.old.client → OnOk result (IsOnTheWay (record { opening = n0; names = names.now }) lines.now [] player.old player.new s (K.written sink.old) (K.written sink.new)) }
+    ensures failed { (n0 : Parts) → (s : Stage) → (edited : Bool) → Stands (record { opening = n0; names = names.now }) player.old s → MayFollow edited player.old.client lines.now → Waits edited player.old.client → IsErrOf result PlayFault.SinkFailed → IsHistory n0 0 player.new.session.history player.new.marks }
+    ensures counts { K.faults sink.old ≤ K.faults sink.new }
+    ensures rose { IsErrOf result PlayFault.SinkFailed → Rose (K.faults sink.old) (K.faults sink.new) }
+{
+    for line in lines {
+        let piece = line_text(alloc, player, names, line)?;
+        write_piece(sink, piece.as_str())?;
+    }
+    Ok(())
+}
+
+/// What a line prints.
+fn line_text(
+    alloc: Global,
+    player: &mut Player,
+    names: &[Text],
+    line: &ScriptLine,
+) -> Result<String, PlayFault>
+    ensures played { (n0 : Parts) → (s : Stage) → (edited : Bool) → Stands (record { opening = n0; names = names.now }) player.old s → IsReady edited player.old.client line.now → Waits edited player.old.client → IfOk result (λ piece. HasPlayed (record { opening = n0; names = names.now }) line.now player.old player.new s [] (string_bytes piece) × Waits (after_line line.now edited) player.new.client) }
+    ensures memory { OnErr result (IsErrOf result PlayFault.OutOfMemory) }
+{
+    match player.line(alloc, names, line) {
+        Ok(piece) => Ok(piece),
+        Err(_) => Err(PlayFault::OutOfMemory),
+    }
+}
+
+/// What the end prints: it leaves a mark.
+fn end_text(alloc: Global, player: &mut Player) -> Result<String, PlayFault>
+    ensures text { IfOk result (λ t. string_bytes t ≡ as_text (codes "end" ∷ (book_lines (rev_in player.old.session.revs) player.old.session.book ++ status_lines player.old.session.book))) }
+    ensures mark { OnOk result (player.new ≡ record player.old { marks = player.old.marks ++ length player.old.session.history ∷ [] }) }
+    ensures memory { OnErr result (IsErrOf result PlayFault.OutOfMemory) }
+{
+    match ended(alloc, player) {
+        Ok(text) => Ok(text),
+        Err(_) => Err(PlayFault::OutOfMemory),
+    }
+}
+
+fn ended(alloc: Global, player: &mut Player) -> Result<String, AllocError>
+    ensures text { IfOk result (λ t. string_bytes t ≡ as_text (codes "end" ∷ (book_lines (rev_in player.old.session.revs) player.old.session.book ++ status_lines player.old.session.book))) }
+    ensures mark { OnOk result (player.new ≡ record player.old { marks = player.old.marks ++ length player.old.session.history ∷ [] }) }
+{
+    player.look()?;
+    let text = end_of(alloc, player)?;
+    Ok(text)
+}
+
+fn end_of(alloc: Global, player: &Player) -> Result<String, AllocError>
+    ensures { IfOk result (λ t. string_bytes t ≡ as_text (codes "end" ∷ (book_lines (rev_in player.now.session.revs) player.now.session.book ++ status_lines player.now.session.book))) }
+{
+    let mut out = String::new(alloc);
+    push_plain(&mut out, "end\n")?;
+    push_book(&mut out, &player.session.book, player.session.revs.as_slice())?;
+    push_statuses(&mut out, player.session.book.parts())?;
+    Ok(out)
+}
+
+/// Writes a piece, unless it is empty.
+fn write_piece<K: Sink>(sink: &mut K, piece: &str) -> Result<(), PlayFault>
+    ensures written { OnOk result (AppendsAll (K.written sink.old) piece.now (K.written sink.new)) }
+    ensures counts { K.faults sink.old ≤ K.faults sink.new }
+    ensures rose { IsErrOf result PlayFault.SinkFailed → Rose (K.faults sink.old) (K.faults sink.new) }
+{
+    if piece.is_empty() {
+        return Ok(());
+    }
+    match sink.write(piece.as_bytes()) {
+        Ok(()) => Ok(()),
+        Err(SinkError::Failed) => Err(PlayFault::SinkFailed),
+        Err(SinkError::OutOfMemory(_)) => Err(PlayFault::OutOfMemory),
+    }
+}
