@@ -6,28 +6,26 @@ use Rattle.delta.specs.Steps.{inserted_by}
 use Rattle.delta.specs.Moves.{text_after}
 use Rattle.notebook.specs.declared.parts.Cell.{Cell}
 use Rattle.notebook.specs.declared.parts.Parts.{Parts}
-use Rattle.notebook.specs.Book.{cells, found, resourced, with_source}
+use Rattle.notebook.specs.Book.{cells, found, with_source}
 use Rattle.session_ops.specs.declared.entry.Op.TheVariants.{Delta}
 use Rattle.session_ops.specs.declared.entry.Call.TheVariants.{Client as ByClient}
-use Rattle.session_ops.specs.declared.entry.Refusal.TheVariants.{NotJoined}
-use Rattle.session_ops.specs.declared.entry.Reply.{Reply}
 use Rattle.session_ops.specs.declared.entry.Reply.TheVariants.{Applied}
 use Rattle.session_ops.specs.declared.entry.Entry.{Entry}
-use Rattle.session_ops.specs.State.{State, Misfit, Past, Splits, state, after_call, revision, reply, is_in, misfit, moved_source}
+use Rattle.session_ops.specs.State.{State, Misfit, Past, Splits, state, after_call, revision, reply, is_in, misfit}
 use Rattle.session_ops.proofs.Growing.{state-append}
 use Rattle.session_ops.proofs.Sources.{ChangesOne, with-one}
-use Rattle.client_sync.specs.Client.{Client as Holder, Pending, Edited, Done, NoCell, EditTooLong, Unfit, held, delivered, edited, edited_cell, with_fitting, with_edit, pending_of, own_source, with_pending, received, received_entry, with_call, with_own, reposted, without, joined_client}
+use Rattle.client_sync.specs.Client.{Client as Holder, Done, EditTooLong, Unfit, held, delivered, edited, edited_cell, with_fitting, with_edit, pending_of, own_source, with_pending, received, joined_client}
 use Rattle.client_sync.specs.Causes.{IsEditCause}
 use Rattle.client_sync.specs.declared.edit_error.EditError.{EditError}
 use Rattle.client_sync.specs.declared.edit_error.EditError.TheVariants.{NoCell as NoCellError, EditTooLong as TooLongError, PastEnd, SplitsPair, OutOfMemory}
-use Rattle.driver.specs.Session.{IsSession, Holds, HasAnswered, entry_of, refusal_for, refusal_if, cell_refusal}
+use Rattle.driver.specs.Session.{IsSession, Holds, HasAnswered, entry_of, refusal_for}
 use Rattle.driver.specs.Revisions.{raised}
-use Rattle.driver.specs.Holder.{Mirrors, IsPosted, FitsIn, IsOwnText, IsOwnMisfit, IsOwnFault}
+use Rattle.driver.specs.Holder.{Mirrors, IsPosted, FitsIn, IsOwnText, IsOwnFault}
 use Rattle.driver.specs.declared.session.Session.{Session}
 use Rattle.driver.specs.declared.client.Client.{Client}
 use Rattle.driver.specs.declared.client.Posted.{Posted}
 use Rattle.driver.proofs.Holding.{note-stays}
-use Rattle.driver.proofs.SessionLaws.{current-reply, reply_by, taken-holds, changes-one}
+use Rattle.driver.proofs.SessionLaws.{current-reply, reply_by, taken-holds}
 
 -- with nothing pending the client holds the server's notebook
 holds-server : (n0 : Parts) (h : List Entry) (c : Client) (m : Holder) → Mirrors n0 h c m → m.pending ≡ [] → c.book ≡ (state n0 h).book

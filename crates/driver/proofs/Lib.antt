@@ -1,3 +1,4 @@
+pub mod AnswerLaws
 pub mod ClientLaws
 pub mod Frame
 pub mod Holding
@@ -6,4 +7,5 @@ pub mod PlayerLaws
 pub mod PlayingLaws
 pub mod RevisionLaws
 pub mod SessionLaws
+pub mod StatusLaws
 pub mod TurnLaws

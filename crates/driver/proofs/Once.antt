@@ -10,7 +10,7 @@ use Rattle.delta.specs.Moves.{text_after}
 use Rattle.notebook.specs.declared.parts.Cell.{Cell}
 use Rattle.notebook.specs.declared.parts.Section.{Section}
 use Rattle.notebook.specs.declared.parts.Parts.{Parts}
-use Rattle.notebook.specs.Book.{cells, cells_of, found, resourced_cells, resourced_sections, resourced}
+use Rattle.notebook.specs.Book.{cells, cells_of, resourced_cells, resourced_sections, resourced}
 use Rattle.session_ops.specs.declared.entry.Op.TheVariants.{Join, Delta}
 use Rattle.session_ops.specs.declared.entry.Call.{Call}
 use Rattle.session_ops.specs.declared.entry.Call.TheVariants.{Client}

@@ -1,5 +1,5 @@
 -- What each line makes of the stage.
-use Rattle.std.proofs.Common.{◌≡◌, ◌≢◌, ℕ, ◌+◌, ◌<◌, ◌≤◌, ◌==◌, ◌&&◌, Bool, true, false, if◌then◌else◌, List, [], ◌∷◌, ◌++◌, length, map, drop, Option, Some, None, codes, refl, sym, ap, subst, ◌∙◌, arith, append_assoc, inl, inr, ◌⊎◌}
+use Rattle.std.proofs.Common.{◌≡◌, ◌≢◌, ℕ, ◌+◌, ◌≤◌, ◌==◌, Bool, true, false, if◌then◌else◌, List, [], ◌∷◌, ◌++◌, length, map, drop, Option, Some, None, codes, refl, sym, ap, subst, ◌∙◌, arith, append_assoc, inl, inr}
 use Rattle.std.proofs.lemmas.Bool.Decides.{nat_tests}
 use Rattle.std.proofs.lemmas.List.{length-append, append-nil, map-append, drop_all, drop_at}
 use Rattle.delta.specs.declared.Step.{Step}
@@ -12,10 +12,10 @@ use Rattle.session_ops.specs.declared.entry.Call.TheVariants.{Client as ByClient
 use Rattle.session_ops.specs.declared.entry.Reply.{Reply}
 use Rattle.session_ops.specs.declared.entry.Reply.TheVariants.{Accepted, Applied, Refused}
 use Rattle.session_ops.specs.declared.entry.Entry.{Entry}
-use Rattle.session_ops.specs.State.{State, state, after_call, is_in, revision, entries_by, Past, Splits}
+use Rattle.session_ops.specs.State.{state, after_call, is_in, revision, entries_by}
 use Rattle.session_ops.specs.Same.{same_numbers, same_step, same_steps, same_op, same_call}
 use Rattle.session_ops.proofs.Growing.{state-append}
-use Rattle.client_sync.specs.Client.{Client as Holder, Edited, Done, NoCell, EditTooLong, Unfit, edited, received, held, delivered, joined_client, client_of, put_client}
+use Rattle.client_sync.specs.Client.{Client as Holder, Edited, edited, received, held, delivered, joined_client, client_of, put_client}
 use Rattle.client_sync.specs.Causes.{IsEditCause}
 use Rattle.client_sync.specs.declared.edit_error.EditError.{EditError}
 use Rattle.client_sync.specs.declared.edit_error.EditError.TheVariants.{NoCell as NoCellError, EditTooLong as TooLongError, PastEnd, SplitsPair, OutOfMemory}
@@ -25,15 +25,15 @@ use Rattle.notebook.specs.Book.{cells}
 use Rattle.transcript.proofs.Agreeing.{Agree}
 use Rattle.transcript.proofs.Agreeing.{book_lines-agree}
 use Rattle.transcript.specs.Texts.{as_text, book_lines, rev_in}
-use Rattle.driver.specs.Turns.{Turn, Made, Looked, turns_from, made_by_0, AreMarks}
-use Rattle.driver.specs.Player.{Game, Stage, Answered, Marked, play_line, play_edit, with_edited, joined, say, with_clients, name_of, edit_line, sent_line, sync_line, joined_line, not_joined_line, asks, looks}
-use Rattle.driver.specs.Headline.{IsOfRun, AllOfRun, call_of}
-use Rattle.driver.specs.Lines.{joined_words, not_joined_words, edit_words, sent_words, sync_words, error_words}
+use Rattle.driver.specs.Turns.{Turn, Made, Looked, turns_from, AreMarks}
+use Rattle.driver.specs.Player.{Game, Stage, with_edited, joined, say, with_clients, name_of, edit_line, sent_line, sync_line, joined_line, not_joined_line}
+use Rattle.driver.specs.Headline.{AllOfRun, call_of}
+use Rattle.driver.specs.Lines.{joined_words, not_joined_words, sent_words, sync_words, error_words}
 use Rattle.driver.specs.Session.{IsSession, HasAnswered, entry_of}
 use Rattle.driver.specs.Holder.{Mirrors, IsPosted, confirmed_by}
 use Rattle.driver.specs.Revisions.{raised}
 use Rattle.driver.proofs.ClientLaws.{posted-applied, confirmed}
-use Rattle.driver.specs.Standing.{StandsFor, Stands, Waits, with_posted, HasExchangedAny, HasPlayed, IsEdited, IsUnedited, HasEdited, HasSent, HasStayed, HasExchanged}
+use Rattle.driver.specs.Standing.{StandsFor, Stands, Waits, with_posted, HasExchangedAny, HasPlayed, IsEdited, IsUnedited, HasEdited, HasSent, HasExchanged}
 use Rattle.driver.specs.declared.session.Session.{Session}
 use Rattle.driver.specs.declared.client.Client.{Client}
 use Rattle.driver.specs.declared.client.Posted.{Posted}

@@ -1,8 +1,6 @@
 -- Lines played one after the other, and the end.
-use Rattle.std.proofs.Common.{◌≡◌, ◌≢◌, ℕ, ◌+◌, ◌<◌, ◌≤◌, Bool, true, false, List, [], ◌∷◌, ◌++◌, length, map, drop, take, get_or, Option, Some, None, codes, refl, sym, ap, subst, ◌∙◌, arith, append_assoc, inl, inr, ◌⊎◌}
-use Rattle.std.proofs.lemmas.List.{length-append, append-nil, drop_more}
-use Rattle.std.specs.List.{flat_map}
-use Rattle.std.proofs.lemmas.Grind.{flat_map-append}
+use Rattle.std.proofs.Common.{◌≡◌, ℕ, ◌+◌, ◌<◌, ◌≤◌, Bool, false, List, [], ◌∷◌, ◌++◌, length, map, drop, take, get_or, Option, Some, None, codes, refl, sym, ap, subst, ◌∙◌, arith, append_assoc, inl, inr}
+use Rattle.std.proofs.lemmas.List.{append-nil, drop_more, drop_all, take_more, take_all}
 use Rattle.notebook.specs.declared.parts.Parts.{Parts}
 use Rattle.notebook.specs.Book.{cells}
 use Rattle.notebook.specs.Rules.{AreDistinct, cell_number}
@@ -11,21 +9,22 @@ use Rattle.session_ops.specs.State.{state, revision, entries_by}
 use Rattle.std.proofs.lemmas.Bool.Decides.{nat_tests}
 use Rattle.delta.specs.Moves.{text_after}
 use Rattle.session_ops.specs.State.{misfit}
-use Rattle.client_sync.specs.Client.{Client as Holder, Pending, held, delivered}
+use Rattle.client_sync.specs.Client.{Client as Holder, delivered}
 use Rattle.script.specs.declared.line.ScriptLine.{ScriptLine}
 use Rattle.script.specs.declared.line.ScriptLine.TheVariants.{Join, Edit, Sync, Show}
 use Rattle.script.specs.declared.content.Content.{Content}
 use Rattle.script.specs.Play.{GoesOn, Begins, IsPlay, IsPlayable}
-use Rattle.transcript.specs.Texts.{as_text, ended_line, book_lines, rev_in}
+use Rattle.transcript.specs.Texts.{as_text, book_lines, rev_in}
 use Rattle.transcript.proofs.Agreeing.{book_lines-agree}
 use Rattle.book_outside.specs.Outside.{AppendsAll}
 use Rattle.driver.specs.Turns.{Turn, Looked, turns_from, AreMarks}
 use Rattle.driver.specs.Player.{Game, Stage, or_none, play, play_line}
 use Rattle.driver.specs.Transcript.{game, begun, stage_after, settled, finished, ending, transcript, end_lines, status_lines}
-use Rattle.driver.specs.Headline.{AllOfRun, AllClients, IsClientOf, AllFit, FitsCell, IsHistory, IsPlayed, call_of}
+use Rattle.driver.specs.Headline.{AllOfRun, AllClients, IsClientOf, AllFit, IsHistory, IsPlayed, call_of}
 use Rattle.driver.specs.Session.{IsSession}
 use Rattle.driver.specs.Holder.{Mirrors, IsPosted, FitsIn}
 use Rattle.driver.specs.Standing.{Stands, StandsFor, Waits, HasPlayed, after_line}
+use Rattle.driver.specs.Ends.{IsFresh}
 use Rattle.driver.specs.Playing.{IsReady, MayFollow, HavePlayed, IsOnTheWay}
 use Rattle.driver.specs.declared.client.Client.{Client}
 use Rattle.driver.specs.declared.client.Posted.{Posted}
@@ -129,9 +128,9 @@ first-stage n0 names p is eh ec em =
     record {
       session = is;
       used = refl;
-      marks = rw (em, eh) tt;
-      run = rw eh tt;
-      asked = rw eh refl;
+      marks = subst (λ ms. AreMarks 0 ms (length p.session.history)) (sym em) tt;
+      run = subst (AllOfRun 0) (sym eh) tt;
+      asked = ap (λ h. map call_of (entries_by h 0)) (sym eh);
       clients = subst (λ o. StandsFor n0 p.session.history o []) (sym ec) refl;
     }
 
@@ -169,6 +168,12 @@ end-known n0 p is =
 pub history-of : (g : Game) (p : Player) (s : Stage) → Stands g p s → IsHistory g.opening 0 p.session.history p.marks
 history-of g p s st = record { legal = st.session.legal; marked = st.marks; others = st.run }
 
+zero-least : (n : ℕ) → 0 ≤ n
+zero-least n = omega arith
+
+no-turns : (p : Player) → p.session.history ≡ [] → p.marks ≡ [] → turns_from [] p.session.history p.marks ≡ []
+no-turns p eh em = ap (λ h. turns_from [] h p.marks) eh ∙ ap (λ ms. turns_from [] [] ms) em
+
 -- the end of the play
 pub all-played : (n0 : Parts) (content : Content) (p0 p1 p2 : Player) (w0 w1 w2 : Option (List ℕ)) (bytes : List ℕ) → AreDistinct (map cell_number (cells n0)) → p0.session.history ≡ [] → p0.marks ≡ [] → (x : HavePlayed (game n0 content) content.lines p0 p1 (begun [] []) w0 w1)
     → p2.session ≡ p1.session → p2.marks ≡ p1.marks ++ length p1.session.history ∷ [] → bytes ≡ as_text (codes "end" ∷ (book_lines (rev_in p1.session.revs) p1.session.book ++ status_lines p1.session.book)) → AppendsAll w1 bytes w2
@@ -177,24 +182,98 @@ all-played n0 content p0 p1 p2 w0 w1 w2 bytes d eh em x es ems eb w =
     let g : Game = game n0 content in
     let h : List Entry = p1.session.history in
     let ms : List ℕ = p1.marks ++ length h ∷ [] in
-    let grown : turns_from [] h p1.marks ≡ x.more = x.grown ∙ ap (λ ts. ts ++ x.more) (rw (eh, em) refl) in
+    let grown : turns_from [] h p1.marks ≡ x.more = x.grown ∙ ap (λ ts. ts ++ x.more) (no-turns p0 eh em) in
     let turns : turns_from [] h ms ≡ x.more ++ Looked h ∷ [] = turns-looked h p1.marks ∙ ap (λ ts. ts ++ Looked h ∷ []) grown in
     let last : Stage = record x.stage { turns = [] } in
     let lines : stage_after n0 content content.lines h ms ≡ Some (record x.stage { turns = Looked h ∷ [] })
-        = ap (λ ts. let k : Stage = record { turns = ts; clients = []; asked = []; said = [] } in play g content.lines k) turns
-          ∙ (more-of x.more (Looked h ∷ []) (begun [] []) content.lines g x.stage x.played ∙ ap Some (used-up (Looked h ∷ []) x.stage x.stands.used)) in
+    = ap (λ ts. let k : Stage = record { turns = ts; clients = []; asked = []; said = [] } in play g content.lines k) turns
+    ∙ (more-of x.more (Looked h ∷ []) (begun [] []) content.lines g x.stage x.played ∙ ap Some (used-up (Looked h ∷ []) x.stage x.stands.used)) in
     let done : finished n0 content h ms ≡ Some last = ap (λ o. or_none o (settled g)) lines in
     let text : List ℕ = x.stage.said ++ as_text (end_lines (state n0 h)) in
     let printed : transcript n0 [] content h ms ≡ Some text = ap (λ o. or_none o (λ s. ending n0 [] h s s.turns)) done in
-    let tail : bytes ≡ as_text (end_lines (state n0 h)) = eb ∙ ap as_text (end-known n0 p1 x.stands.session) in
-    (text,
-      (rw (es, ems)
-       (record {
-        history = record { legal = x.stands.session.legal; marked = marks-push 0 p1.marks (length h) (omega arith) x.stands.marks; others = x.stands.run };
-        printed = printed;
-        stage = last;
-        played = done;
-        calls = x.stands.asked;
-        clients = clients-of n0 h p1.client x.stage.clients x.stands.clients;
-        once = all-grown n0 h d;
-      }), subst (λ z. AppendsAll w0 z w2) (ap (λ z. z ++ as_text (end_lines (state n0 h))) (sym x.said)) (written-more w0 w1 w2 x.piece (as_text (end_lines (state n0 h))) x.written (subst (λ z. AppendsAll w1 z w2) tail w))))
+    let tail : bytes ≡ as_text (end_lines (state n0 h)) = eb ∙ ap as_text (end-known n0 p1 x.stands.session) in (
+      text,
+      (
+        rw (es, ems)
+            (record {
+              history = record { legal = x.stands.session.legal; marked = marks-push 0 p1.marks (length h) (zero-least (length h)) x.stands.marks; others = x.stands.run };
+              printed = printed;
+              stage = last;
+              played = done;
+              calls = x.stands.asked;
+              clients = clients-of n0 h p1.client x.stage.clients x.stands.clients;
+              once = all-grown n0 h d;
+            }),
+        subst (λ z. AppendsAll w0 z w2) (ap (λ z. z ++ as_text (end_lines (state n0 h))) (sym x.said)) (written-more w0 w1 w2 x.piece (as_text (end_lines (state n0 h))) x.written (subst (λ z. AppendsAll w1 z w2) tail w)),
+      ),
+    )
+
+-- the next line was played
+next-line : (g : Game) (xs rest : List ScriptLine) (l : ScriptLine) (p0 p1 p2 : Player) (s : Stage) (w0 w1 w2 : Option (List ℕ)) (bytes : List ℕ) → IsOnTheWay g xs (l ∷ rest) p0 p1 s w0 w1
+    → ((t : Stage) → (edited : Bool) → Stands g p1 t → IsReady edited p1.client l → Waits edited p1.client → HasPlayed g l p1 p2 t [] bytes × Waits (after_line l edited) p2.client) → AppendsAll w1 bytes w2 → IsOnTheWay g (xs ++ l ∷ []) rest p0 p2 s w0 w2
+next-line g xs rest l p0 p1 p2 s w0 w1 w2 bytes way f w =
+    let ready : IsReady way.edited p1.client l × MayFollow (after_line l way.edited) p2.client rest = follow-next way.edited p1.client p2.client l rest way.follow in
+    let y : HasPlayed g l p1 p2 way.so_far.stage [] bytes × Waits (after_line l way.edited) p2.client = f way.so_far.stage way.edited way.so_far.stands ready.0 way.waits in
+    record { so_far = line-more g xs l p0 p1 p2 s w0 w1 w2 bytes way.so_far y.0 w; edited = after_line l way.edited; follow = ready.1; waits = y.1 }
+
+take-next : (xs : List ScriptLine) (i : ℕ) (l : ScriptLine) → i < length xs → l ≡ get_or xs i l → take (i + 1) xs ≡ take i xs ++ l ∷ []
+take-next xs i l lt is = take_more xs i l lt ∙ ap (λ x. take i xs ++ x ∷ []) (sym is)
+
+drop-next : (xs : List ScriptLine) (i : ℕ) (l : ScriptLine) → i < length xs → l ≡ get_or xs i l → drop i xs ≡ l ∷ drop (i + 1) xs
+drop-next xs i l lt is = drop_more xs i l lt ∙ ap (λ x. x ∷ drop (i + 1) xs) (sym is)
+
+pub way-more : (g : Game) (lines : List ScriptLine) (i : ℕ) (l : ScriptLine) (p0 p1 p2 : Player) (s : Stage) (w0 w1 w2 : Option (List ℕ)) (bytes : List ℕ) → i < length lines → l ≡ get_or lines i l → IsOnTheWay g (take i lines) (drop i lines) p0 p1 s w0 w1
+    → ((t : Stage) → (edited : Bool) → Stands g p1 t → IsReady edited p1.client l → Waits edited p1.client → HasPlayed g l p1 p2 t [] bytes × Waits (after_line l edited) p2.client) → AppendsAll w1 bytes w2 → IsOnTheWay g (take (i + 1) lines) (drop (i + 1) lines) p0 p2 s w0 w2
+way-more g lines i l p0 p1 p2 s w0 w1 w2 bytes lt is way f w =
+    subst (λ xs. IsOnTheWay g xs (drop (i + 1) lines) p0 p2 s w0 w2) (sym (take-next lines i l lt is))
+    (next-line g (take i lines) (drop (i + 1) lines) l p0 p1 p2 s w0 w1 w2 bytes (subst (λ ys. IsOnTheWay g (take i lines) ys p0 p1 s w0 w1) (drop-next lines i l lt is) way) f w)
+
+-- the line was played, but its piece could not be written
+pub way-failed : (g : Game) (lines : List ScriptLine) (i : ℕ) (l : ScriptLine) (p0 p1 p2 : Player) (s : Stage) (w0 w1 : Option (List ℕ)) (bytes : List ℕ) → i < length lines → l ≡ get_or lines i l → IsOnTheWay g (take i lines) (drop i lines) p0 p1 s w0 w1
+    → ((t : Stage) → (edited : Bool) → Stands g p1 t → IsReady edited p1.client l → Waits edited p1.client → HasPlayed g l p1 p2 t [] bytes × Waits (after_line l edited) p2.client) → IsHistory g.opening 0 p2.session.history p2.marks
+way-failed g lines i l p0 p1 p2 s w0 w1 bytes lt is way f =
+    let x : IsOnTheWay g (take i lines) (l ∷ drop (i + 1) lines) p0 p1 s w0 w1 = subst (λ ys. IsOnTheWay g (take i lines) ys p0 p1 s w0 w1) (drop-next lines i l lt is) way in
+    let ready : IsReady x.edited p1.client l × MayFollow (after_line l x.edited) p2.client (drop (i + 1) lines) = follow-next x.edited p1.client p2.client l (drop (i + 1) lines) x.follow in
+    let y : HasPlayed g l p1 p2 x.so_far.stage [] bytes × Waits (after_line l x.edited) p2.client = f x.so_far.stage x.edited x.so_far.stands ready.0 x.waits in
+    history-of g p2 y.0.stage y.0.stands
+
+pub way-begin : (g : Game) (lines : List ScriptLine) (p : Player) (s : Stage) (w : Option (List ℕ)) (edited : Bool) → Stands g p s → MayFollow edited p.client lines → Waits edited p.client → IsOnTheWay g [] lines p p s w w
+way-begin g lines p s w edited st fo wa = record { so_far = none-played g p s w st; edited = edited; follow = fo; waits = wa }
+
+pub way-end : (g : Game) (lines : List ScriptLine) (i : ℕ) (p0 p1 : Player) (s : Stage) (w0 w1 : Option (List ℕ)) → length lines ≤ i → IsOnTheWay g (take i lines) (drop i lines) p0 p1 s w0 w1 → IsOnTheWay g lines [] p0 p1 s w0 w1
+way-end g lines i p0 p1 s w0 w1 le way =
+    subst (λ xs. IsOnTheWay g xs [] p0 p1 s w0 w1) (take_all i lines le) (subst (λ ys. IsOnTheWay g (take i lines) ys p0 p1 s w0 w1) (drop_all i lines le) way)
+
+-- what playing the lines gives, by their names and themselves
+abbrev pub LinesPlayed : Player → Player → Option (List ℕ) → Option (List ℕ) → List (List ℕ) → List ScriptLine → Type 0
+LinesPlayed p0 p1 w0 w1 names lines = (n0 : Parts) → (s : Stage) → (edited : Bool) → Stands (record { opening = n0; names = names }) p0 s → MayFollow edited p0.client lines → Waits edited p0.client → IsOnTheWay (record { opening = n0; names = names }) lines [] p0 p1 s w0 w1
+
+abbrev pub LinesFailed : Player → Player → List (List ℕ) → List ScriptLine → Type 0
+LinesFailed p0 p1 names lines = (n0 : Parts) → (s : Stage) → (edited : Bool) → Stands (record { opening = n0; names = names }) p0 s → MayFollow edited p0.client lines → Waits edited p0.client → IsHistory n0 0 p1.session.history p1.marks
+
+fresh-way : (n0 : Parts) (content : Content) (p0 p1 : Player) (w0 w1 : Option (List ℕ)) (names : List (List ℕ)) (lines : List ScriptLine) → IsFresh n0 p0 → IsPlayable content → names ≡ content.names → lines ≡ content.lines → LinesPlayed p0 p1 w0 w1 names lines → IsOnTheWay (game n0 content) content.lines [] p0 p1 (begun [] []) w0 w1
+fresh-way n0 content p0 p1 w0 w1 names lines fr ok en el f =
+    let f' : LinesPlayed p0 p1 w0 w1 content.names content.lines = subst (λ ns. LinesPlayed p0 p1 w0 w1 ns content.lines) en (subst (λ ls. LinesPlayed p0 p1 w0 w1 names ls) el f) in
+    f' n0 (begun [] []) false (first-stage n0 content.names p0 fr.session fr.history fr.client fr.marks) (subst (λ o. MayFollow false o content.lines) (sym fr.client) (follow-script content ok)) (subst (Waits false) (sym fr.client) tt)
+
+pub fresh-failed : (n0 : Parts) (content : Content) (p0 p1 : Player) (names : List (List ℕ)) (lines : List ScriptLine) → IsFresh n0 p0 → IsPlayable content → names ≡ content.names → lines ≡ content.lines → LinesFailed p0 p1 names lines → IsHistory n0 0 p1.session.history p1.marks
+fresh-failed n0 content p0 p1 names lines fr ok en el f =
+    let f' : LinesFailed p0 p1 content.names content.lines = subst (λ ns. LinesFailed p0 p1 ns content.lines) en (subst (λ ls. LinesFailed p0 p1 names ls) el f) in
+    f' n0 (begun [] []) false (first-stage n0 content.names p0 fr.session fr.history fr.client fr.marks) (subst (λ o. MayFollow false o content.lines) (sym fr.client) (follow-script content ok)) (subst (Waits false) (sym fr.client) tt)
+
+first-distinct : (n0 : Parts) (p : Player) → IsFresh n0 p → AreDistinct (map cell_number (cells n0))
+first-distinct n0 p fr = subst (λ h. AreDistinct (map cell_number (cells (state n0 h).book))) fr.history fr.session.holds.numbers
+
+-- the script was played to its end
+pub fresh-played : (n0 : Parts) (content : Content) (p0 p1 p2 : Player) (w0 w1 w2 : Option (List ℕ)) (names : List (List ℕ)) (lines : List ScriptLine) (bytes : List ℕ) → IsFresh n0 p0 → IsPlayable content → names ≡ content.names → lines ≡ content.lines → LinesPlayed p0 p1 w0 w1 names lines
+    → p2 ≡ record p1 { marks = p1.marks ++ length p1.session.history ∷ [] } → bytes ≡ as_text (codes "end" ∷ (book_lines (rev_in p1.session.revs) p1.session.book ++ status_lines p1.session.book)) → AppendsAll w1 bytes w2
+    → (text : List ℕ) × (IsPlayed n0 [] content 0 p2.session.history p2.marks text × AppendsAll w0 text w2)
+fresh-played n0 content p0 p1 p2 w0 w1 w2 names lines bytes fr ok en el f e2 eb w =
+    all-played n0 content p0 p1 p2 w0 w1 w2 bytes (first-distinct n0 p0 fr) fr.history fr.marks (fresh-way n0 content p0 p1 w0 w1 names lines fr ok en el f).so_far (ap (λ p. p.session) e2) (ap (λ p. p.marks) e2) eb w
+
+-- the end could not be written
+pub fresh-cut : (n0 : Parts) (content : Content) (p0 p1 p2 : Player) (w0 w1 : Option (List ℕ)) (names : List (List ℕ)) (lines : List ScriptLine) → IsFresh n0 p0 → IsPlayable content → names ≡ content.names → lines ≡ content.lines → LinesPlayed p0 p1 w0 w1 names lines
+    → p2 ≡ record p1 { marks = p1.marks ++ length p1.session.history ∷ [] } → IsHistory n0 0 p2.session.history p2.marks
+fresh-cut n0 content p0 p1 p2 w0 w1 names lines fr ok en el f e2 =
+    let st : Stands (game n0 content) p1 _ = (fresh-way n0 content p0 p1 w0 w1 names lines fr ok en el f).so_far.stands in
+    rw e2 (record { legal = st.session.legal; marked = marks-push 0 p1.marks (length p1.session.history) (zero-least (length p1.session.history)) st.marks; others = st.run })

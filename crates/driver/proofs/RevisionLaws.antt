@@ -1,15 +1,12 @@
 -- Lists of cells and their revisions.
-use Rattle.std.proofs.Common.{◌≡◌, ◌≢◌, ℕ, ◌+◌, ◌<◌, ◌==◌, Bool, true, false, if◌then◌else◌, List, [], ◌∷◌, ◌++◌, map, length, Option, Some, None, suc, zero, refl, sym, ap, subst, ◌∙◌, arith, append_assoc}
+use Rattle.std.proofs.Common.{◌≡◌, ℕ, ◌+◌, ◌<◌, ◌==◌, Bool, true, false, if◌then◌else◌, List, [], ◌∷◌, ◌++◌, length, Option, Some, None, suc, refl, sym, ap, ◌∙◌, arith, append_assoc}
 use Rattle.std.proofs.Common.{drop, get_or}
 use Rattle.std.proofs.lemmas.List.{drop_more}
 use Rattle.std.specs.Prelude.{slice_set}
 use Rattle.std.specs.List.{flat_map}
 use Rattle.notebook.specs.declared.parts.Section.{Section}
 use Rattle.notebook.specs.Book.{cells_of}
-use Rattle.std.proofs.lemmas.Bool.Decides.{nat_tests}
 use Rattle.notebook.specs.declared.parts.Cell.{Cell}
-use Rattle.notebook.specs.Rules.{cell_number}
-use Rattle.transcript.specs.Texts.{rev_in}
 use Rattle.driver.specs.Revisions.{raised, first_revs, place_in, later}
 
 pub first-append : (xs ys : List Cell) → first_revs (xs ++ ys) ≡ first_revs xs ++ first_revs ys

@@ -1,5 +1,5 @@
 -- A session goes on standing for the state of its history.
-use Rattle.std.proofs.Common.{◌≡◌, ◌≢◌, ℕ, ◌+◌, ◌<◌, ◌≤◌, ◌==◌, ◌&&◌, min, max, nat_lt, Bool, true, false, if◌then◌else◌, List, [], ◌∷◌, ◌++◌, map, length, drop, Option, Some, None, suc, zero, refl, sym, ap, subst, ◌∙◌, arith, append_assoc}
+use Rattle.std.proofs.Common.{◌≡◌, ℕ, ◌+◌, ◌≤◌, ◌==◌, ◌&&◌, min, max, nat_lt, Bool, true, false, if◌then◌else◌, List, [], ◌∷◌, ◌++◌, map, length, drop, Option, Some, None, refl, sym, ap, subst, ◌∙◌, arith}
 use Rattle.std.proofs.lemmas.Bool.Decides.{nat_tests}
 use Rattle.std.proofs.lemmas.List.{length-append, drop_all, map-append}
 use Rattle.std.proofs.lemmas.List.Elements.{Contains-append_left}
@@ -16,11 +16,10 @@ use Rattle.session_ops.specs.declared.entry.Op.{Op}
 use Rattle.session_ops.specs.declared.entry.Call.{Call}
 use Rattle.session_ops.specs.declared.entry.Call.TheVariants.{Client}
 use Rattle.session_ops.specs.declared.entry.Refusal.{Refusal}
-use Rattle.session_ops.specs.declared.entry.Refusal.TheVariants.{NotJoined, AlreadyJoined, NoCell}
+use Rattle.session_ops.specs.declared.entry.Refusal.TheVariants.{NotJoined, AlreadyJoined}
 use Rattle.session_ops.specs.declared.entry.Reply.{Reply}
 use Rattle.session_ops.specs.declared.entry.Reply.TheVariants.{Accepted, Applied, Refused}
-use Rattle.session_ops.specs.declared.entry.Entry.{Entry}
-use Rattle.session_ops.specs.State.{State, Known, Taken, Misfit, Past, Splits, state, after, after_call, revision, taken_by, reply, is_in, least, least_among, least_floor, floor, delta_reply, misfit, judged_by, refusal_of, knows_all, moved_source, Legal, opening}
+use Rattle.session_ops.specs.State.{State, Known, Taken, Misfit, state, after_call, revision, taken_by, reply, is_in, least, least_among, least_floor, floor, delta_reply, misfit, judged_by, knows_all, moved_source, Legal, opening}
 use Rattle.session_ops.proofs.Growing.{state-append, legal-append}
 use Rattle.session_ops.proofs.Sources.{ChangesOne, with-one}
 use Rattle.transcript.specs.Texts.{rev_in}

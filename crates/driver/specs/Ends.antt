@@ -1,5 +1,9 @@
 -- How playing a script ends.
-use Rattle.std.specs.Prelude.{◌≡◌, ℕ, List, [], Option}
+use Rattle.std.specs.Prelude.{◌≡◌, ℕ, List, [], ◌∷◌, ◌++◌, length, codes, Option, None}
+use Rattle.transcript.specs.Texts.{as_text, book_lines, rev_in}
+use Rattle.driver.specs.Transcript.{status_lines}
+use Rattle.driver.specs.Session.{IsSession}
+use Rattle.driver.specs.declared.player.Player.{Player}
 use Rattle.book_outside.specs.Outside.{Rose, AppendsAll}
 use Rattle.notebook.specs.declared.parts.Parts.{Parts}
 use Rattle.script.specs.declared.content.Content.{Content}
@@ -7,6 +11,18 @@ use Rattle.driver.specs.Headline.{IsHistory, IsPlayed}
 use Rattle.driver.specs.declared.outcome.Report.{Report}
 use Rattle.driver.specs.declared.play.Played.{Played}
 use Rattle.driver.specs.declared.play.Played.TheVariants.{Done, SinkFailed, OutOfMemory}
+
+-- a player before the first line of a script
+pub record IsFresh (n0 : Parts) (p : Player) : Type 0 where
+  pub session : IsSession n0 p.session
+  pub history : p.session.history ≡ []
+  pub client : p.client ≡ None
+  pub marks : p.marks ≡ []
+
+-- the end left a mark, and what it prints was written
+pub record EndsWritten (old new : Player) (before after : Option (List ℕ)) : Type 0 where
+  pub mark : new ≡ record old { marks = old.marks ++ length old.session.history ∷ [] }
+  pub written : AppendsAll before (as_text (codes "end" ∷ (book_lines (rev_in old.session.revs) old.session.book ++ status_lines old.session.book))) after
 
 -- the script was played, and its transcript written
 pub record IsPlayedOut (n0 : Parts) (content : Content) (before after : Option (List ℕ)) (report : Report) : Type 0 where

@@ -9,7 +9,7 @@ use Rattle.session_ops.specs.declared.entry.Op.TheVariants.{Join as Joins}
 use Rattle.session_ops.specs.declared.entry.Call.{Call}
 use Rattle.session_ops.specs.declared.entry.Call.TheVariants.{Client as ByClient}
 use Rattle.session_ops.specs.declared.entry.Reply.{Reply}
-use Rattle.session_ops.specs.declared.entry.Reply.TheVariants.{Accepted, Applied, Refused}
+use Rattle.session_ops.specs.declared.entry.Reply.TheVariants.{Accepted}
 use Rattle.session_ops.specs.declared.entry.Entry.{Entry}
 use Rattle.session_ops.specs.State.{revision, refusal_of}
 use Rattle.session_ops.specs.Same.{same_call}

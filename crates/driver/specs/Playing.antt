@@ -1,12 +1,9 @@
 -- What some lines of a script make of the player, and what is written of them.
-use Rattle.std.specs.Prelude.{◌≡◌, ℕ, Bool, true, false, List, [], ◌∷◌, ◌++◌, length, map, Option, Some, None, IfSome, ◌⊎◌}
-use Rattle.std.specs.Str.{encode_utf8_all}
+use Rattle.std.specs.Prelude.{◌≡◌, ℕ, Bool, false, List, [], ◌++◌, Option, Some, None, ◌⊎◌}
 use Rattle.script.specs.declared.line.ScriptLine.{ScriptLine}
 use Rattle.script.specs.declared.line.ScriptLine.TheVariants.{Join, Edit, Sync, Show}
-use Rattle.script.specs.declared.content.Content.{Content}
 use Rattle.script.specs.Play.{GoesOn, Begins}
 use Rattle.book_outside.specs.Outside.{AppendsAll}
-use Rattle.notebook.specs.declared.parts.Parts.{Parts}
 use Rattle.driver.specs.Turns.{Turn, turns_from}
 use Rattle.driver.specs.Player.{Game, Stage, play}
 use Rattle.driver.specs.Standing.{Stands, Waits}

@@ -1,5 +1,5 @@
 -- What the program answers.
-use Rattle.std.specs.Prelude.{◌≡◌, ◌≢◌, ℕ, List, [], ◌∷◌, ◌++◌, map, Option, Some, None, IfSome, codes}
+use Rattle.std.specs.Prelude.{◌≡◌, ◌≢◌, ℕ, List, [], ◌∷◌, ◌++◌, map, Option, Some, None, codes}
 use Rattle.std.specs.Fmt.{decimal}
 use Rattle.book_outside.specs.Outside.{Rose, GivesFront, AppendsAll}
 use Rattle.notebook.specs.declared.parts.Parts.{Parts}
@@ -13,12 +13,10 @@ use Rattle.script.specs.declared.content.Content.{Content}
 use Rattle.script.specs.declared.error.ScriptError.{ScriptError}
 use Rattle.script.specs.declared.error.ScriptError.TheVariants.{OutOfMemory as ScriptMemory}
 use Rattle.script.specs.Script.{IsScriptOf, IsScriptCause}
-use Rattle.session_ops.specs.declared.entry.Entry.{Entry}
 use Rattle.driver.specs.Headline.{IsHistory, IsPlayed}
 use Rattle.driver.specs.declared.outcome.Report.{Report}
 use Rattle.driver.specs.declared.outcome.RunFault.{RunFault}
 use Rattle.driver.specs.declared.outcome.RunFault.TheVariants.{Usage, BookUnread, BookRefused, ScriptUnread, ScriptRefused, SinkFailed, OutOfMemory}
-use Rattle.driver.specs.declared.outcome.Outcome.{Outcome}
 
 -- the words `play BOOK SCRIPT`
 abbrev pub IsPlay : List (List ℕ) → List ℕ → List ℕ → Type 0

@@ -1,5 +1,5 @@
 -- Cells and their revisions, as a list.
-use Rattle.std.specs.Prelude.{ℕ, ◌+◌, ◌==◌, suc, if◌then◌else◌, List, [], ◌∷◌, Option, Some, None}
+use Rattle.std.specs.Prelude.{ℕ, ◌+◌, ◌==◌, if◌then◌else◌, List, [], ◌∷◌, Option, Some, None}
 use Rattle.notebook.specs.declared.parts.Cell.{Cell}
 
 -- each of these cells with the revision 0

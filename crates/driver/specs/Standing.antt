@@ -1,10 +1,10 @@
 -- Where the play of a script stands, and what a line makes of it.
-use Rattle.std.specs.Prelude.{◌≡◌, ◌≢◌, ℕ, codes, ◌+◌, Bool, true, false, List, [], ◌∷◌, ◌++◌, length, map, Option, Some, None, ◌⊎◌}
+use Rattle.std.specs.Prelude.{◌≡◌, ◌≢◌, ℕ, codes, Bool, true, false, List, [], ◌∷◌, ◌++◌, length, map, Option, Some, None, ◌⊎◌}
 use Rattle.session_ops.specs.declared.entry.Op.TheVariants.{Delta}
 use Rattle.session_ops.specs.declared.entry.Call.TheVariants.{Client as ByClient}
 use Rattle.session_ops.specs.declared.entry.Reply.TheVariants.{Applied}
 use Rattle.session_ops.specs.declared.entry.Entry.{Entry}
-use Rattle.session_ops.specs.State.{State, state, revision, entries_by}
+use Rattle.session_ops.specs.State.{entries_by}
 use Rattle.client_sync.specs.Client.{Client as Holder, Done, edited, received, joined_client}
 use Rattle.client_sync.specs.Causes.{IsEditCause}
 use Rattle.client_sync.specs.declared.edit_error.EditError.{EditError}
@@ -17,7 +17,7 @@ use Rattle.transcript.specs.Texts.{as_text}
 use Rattle.notebook.specs.declared.parts.Parts.{Parts}
 use Rattle.driver.specs.Lines.{sent_words, edit_words, error_words}
 use Rattle.driver.specs.Turns.{Turn, turns_from, AreMarks}
-use Rattle.driver.specs.Player.{Game, Stage, play_line, play}
+use Rattle.driver.specs.Player.{Game, Stage, play_line}
 use Rattle.driver.specs.Headline.{AllOfRun, call_of}
 use Rattle.driver.specs.Session.{IsSession, HasAnswered, entry_of}
 use Rattle.driver.specs.Holder.{Mirrors}

@@ -4,8 +4,12 @@
 mod client;
 mod lines;
 mod outcome;
+mod play;
 mod player;
 mod revisions;
 mod session;
+mod statuses;
+mod top;
 
 pub use outcome::{Outcome, Report, RunFault};
+pub use top::program;

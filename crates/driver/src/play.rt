@@ -1,18 +1,15 @@
 //! Playing a script over a notebook, with what is printed written to a sink.
-ghost use Rattle.std.specs.Prelude.{◌≡◌, ℕ, ◌≤◌, ◌∷◌, [], ◌++◌, List, Bool, OnOk, IfOk, OnErr, IsErrOf, None, codes, length, map, string_bytes};
+ghost use Rattle.std.specs.Prelude.{◌≡◌, ℕ, ◌≤◌, ◌∷◌, [], ◌++◌, List, Bool, OnOk, IfOk, OnErr, IsErrOf, None, codes, length, string_bytes};
 ghost use Rattle.book_outside.specs.Outside.{Rose, AppendsAll};
 ghost use Rattle.notebook.specs.declared.parts.Parts.{Parts};
-ghost use Rattle.notebook.specs.Book.{cells};
-ghost use Rattle.notebook.specs.Rules.{AreDistinct, cell_number};
 ghost use Rattle.script.specs.Play.{IsPlayable};
 ghost use Rattle.transcript.specs.Texts.{as_text, book_lines, rev_in};
 ghost use Rattle.driver.specs.Player.{Game, Stage};
 ghost use Rattle.driver.specs.Transcript.{status_lines};
 ghost use Rattle.driver.specs.Headline.{IsHistory, IsPlayed};
-ghost use Rattle.driver.specs.Session.{IsSession};
 ghost use Rattle.driver.specs.Standing.{Stands, Waits, HasPlayed, after_line};
 ghost use Rattle.driver.specs.Playing.{IsReady, MayFollow, IsOnTheWay};
-ghost use Rattle.driver.specs.Ends.{IsPlayedSo, IsCutOff};
+ghost use Rattle.driver.specs.Ends.{IsPlayedSo, IsFresh, EndsWritten};
 
 use crate::outcome::Report;
 use crate::player::Player;
@@ -85,21 +82,30 @@ fn play_all<K: Sink>(
     sink: &mut K,
 ) -> Result<(), PlayFault>
     requires { IsPlayable content.now }
-    ensures played { (n0 : Parts) → IsSession n0 player.old.session → player.old.session.history ≡ [] → player.old.client ≡ None → player.old.marks ≡ [] → AreDistinct (map cell_number (cells n0)) → OnOk result ((text : List ℕ) × (IsPlayed n0 [] content.now 0 player.new.session.history player.new.marks text × AppendsAll (K.written sink.old) text (K.written sink.new))) }
-    ensures failed { (n0 : Parts) → IsSession n0 player.old.session → player.old.session.history ≡ [] → player.old.client ≡ None → player.old.marks ≡ [] → IsErrOf result PlayFault.SinkFailed → IsHistory n0 0 player.new.session.history player.new.marks }
+    ensures played { (n0 : Parts) → IsFresh n0 player.old → OnOk result ((text : List ℕ) × (IsPlayed n0 [] content.now 0 player.new.session.history player.new.marks text × AppendsAll (K.written sink.old) text (K.written sink.new))) }
+    ensures failed { (n0 : Parts) → IsFresh n0 player.old → IsErrOf result PlayFault.SinkFailed → IsHistory n0 0 player.new.session.history player.new.marks }
     ensures counts { K.faults sink.old ≤ K.faults sink.new }
     ensures rose { IsErrOf result PlayFault.SinkFailed → Rose (K.faults sink.old) (K.faults sink.new) }
 {
-    play_lines(
-        alloc,
-        player,
-        content.names.as_slice(),
-        content.lines.as_slice(),
-        sink,
-    )?;
-    let text = end_text(alloc, player)?;
-    write_piece(sink, text.as_str())?;
-    Ok(())
+    let names = content.names.as_slice();
+    let lines = content.lines.as_slice();
+    match play_lines(alloc, player, names, lines, sink) {
+        Ok(()) => play_end(alloc, player, sink),
+        Err(fault) => Err(fault),
+    }
+}
+
+/// Plays the end: it leaves a mark.
+fn play_end<K: Sink>(alloc: Global, player: &mut Player, sink: &mut K) -> Result<(), PlayFault>
+    ensures played { OnOk result (EndsWritten player.old player.new (K.written sink.old) (K.written sink.new)) }
+    ensures failed { IsErrOf result PlayFault.SinkFailed → player.new ≡ record player.old { marks = player.old.marks ++ length player.old.session.history ∷ [] } }
+    ensures counts { K.faults sink.old ≤ K.faults sink.new }
+    ensures rose { IsErrOf result PlayFault.SinkFailed → Rose (K.faults sink.old) (K.faults sink.new) }
+{
+    match end_text(alloc, player) {
+        Ok(text) => write_piece(sink, text.as_str()),
+        Err(_) => Err(PlayFault::OutOfMemory),
+    }
 }
 
 /// Plays lines one after the other; what each prints is one write.
@@ -117,7 +123,10 @@ fn play_lines<K: Sink>(
 {
     for line in lines {
         let piece = line_text(alloc, player, names, line)?;
-        write_piece(sink, piece.as_str())?;
+        match write_piece(sink, piece.as_str()) {
+            Ok(()) => {}
+            Err(fault) => return Err(fault),
+        }
     }
     Ok(())
 }
@@ -139,18 +148,7 @@ fn line_text(
 }
 
 /// What the end prints: it leaves a mark.
-fn end_text(alloc: Global, player: &mut Player) -> Result<String, PlayFault>
-    ensures text { IfOk result (λ t. string_bytes t ≡ as_text (codes "end" ∷ (book_lines (rev_in player.old.session.revs) player.old.session.book ++ status_lines player.old.session.book))) }
-    ensures mark { OnOk result (player.new ≡ record player.old { marks = player.old.marks ++ length player.old.session.history ∷ [] }) }
-    ensures memory { OnErr result (IsErrOf result PlayFault.OutOfMemory) }
-{
-    match ended(alloc, player) {
-        Ok(text) => Ok(text),
-        Err(_) => Err(PlayFault::OutOfMemory),
-    }
-}
-
-fn ended(alloc: Global, player: &mut Player) -> Result<String, AllocError>
+fn end_text(alloc: Global, player: &mut Player) -> Result<String, AllocError>
     ensures text { IfOk result (λ t. string_bytes t ≡ as_text (codes "end" ∷ (book_lines (rev_in player.old.session.revs) player.old.session.book ++ status_lines player.old.session.book))) }
     ensures mark { OnOk result (player.new ≡ record player.old { marks = player.old.marks ++ length player.old.session.history ∷ [] }) }
 {
@@ -164,7 +162,11 @@ fn end_of(alloc: Global, player: &Player) -> Result<String, AllocError>
 {
     let mut out = String::new(alloc);
     push_plain(&mut out, "end\n")?;
-    push_book(&mut out, &player.session.book, player.session.revs.as_slice())?;
+    push_book(
+        &mut out,
+        &player.session.book,
+        player.session.revs.as_slice(),
+    )?;
     push_statuses(&mut out, player.session.book.parts())?;
     Ok(out)
 }
@@ -181,6 +183,6 @@ fn write_piece<K: Sink>(sink: &mut K, piece: &str) -> Result<(), PlayFault>
     match sink.write(piece.as_bytes()) {
         Ok(()) => Ok(()),
         Err(SinkError::Failed) => Err(PlayFault::SinkFailed),
-        Err(SinkError::OutOfMemory(_)) => Err(PlayFault::OutOfMemory),
+        Err(SinkError::OutOfMemory) => Err(PlayFault::OutOfMemory),
     }
 }

@@ -33,7 +33,15 @@ fn push_setup(out: &mut String, setup: &Cell) -> Result<(), AllocError>
     if setup.source.is_empty() {
         return Ok(());
     }
-    push_head(out, setup)?;
+    push_main(out, setup)?;
+    Ok(())
+}
+
+/// The state of a cell of the main flow.
+fn push_main(out: &mut String, cell: &Cell) -> Result<(), AllocError>
+    ensures { OnOk result (string_bytes out.new ≡ string_bytes out.old ++ ended_line (status_line (codes "main") cell.now)) }
+{
+    push_head(out, cell)?;
     push_plain(out, "main ready fresh\n")?;
     Ok(())
 }
@@ -41,7 +49,14 @@ fn push_setup(out: &mut String, setup: &Cell) -> Result<(), AllocError>
 fn push_section(out: &mut String, section: &Section) -> Result<(), AllocError>
     ensures { OnOk result (string_bytes out.new ≡ string_bytes out.old ++ as_text (cell_statuses (lane_text section.now section.now.parent) section.now.cells)) }
 {
-    for cell in section.cells.as_slice() {
+    push_cells(out, section, section.cells.as_slice())?;
+    Ok(())
+}
+
+fn push_cells(out: &mut String, section: &Section, cells: &[Cell]) -> Result<(), AllocError>
+    ensures { OnOk result (string_bytes out.new ≡ string_bytes out.old ++ as_text (cell_statuses (lane_text section.now section.now.parent) cells.now)) }
+{
+    for cell in cells {
         push_cell(out, section, cell)?;
     }
     Ok(())
@@ -53,7 +68,10 @@ fn push_cell(out: &mut String, section: &Section, cell: &Cell) -> Result<(), All
 {
     match cell.kind {
         Kind::Setup | Kind::Markdown => Ok(()),
-        Kind::Code => push_code(out, section, cell),
+        Kind::Code => {
+            push_code(out, section, cell)?;
+            Ok(())
+        }
     }
 }
 

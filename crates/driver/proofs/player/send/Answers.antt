@@ -1,4 +1,3 @@
-use Rattle.std.proofs.Common.{refl}
 use Rattle.driver.proofs.PlayerLaws.{sent-applied}
 use Rattle.driver.proofs.player.send.Goals as goal
 

@@ -1,7 +1,7 @@
 use Rattle.std.proofs.Common.{◌≡◌, ◌≢◌, [], Some, refl, ◌∙◌, ap, subst}
 use Rattle.transcript.specs.Texts.{rev_in}
 use Rattle.driver.specs.declared.client.Posted.{Posted}
-use Rattle.driver.proofs.ClientLaws.{edit-done, edit-empty, has-steps}
+use Rattle.driver.proofs.ClientLaws.{edit-done, has-steps}
 use Rattle.driver.proofs.client.Client.edit.Goals as goal
 
 pub returns-clause-ok : goal.returns-clause-ok

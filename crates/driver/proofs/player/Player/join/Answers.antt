@@ -1,4 +1,4 @@
-use Rattle.std.proofs.Common.{◌≡◌, ◌++◌, ◌∷◌, [], false, refl, ap, subst, sym, ◌∙◌, string_bytes}
+use Rattle.std.proofs.Common.{◌++◌, ◌∷◌, [], false, refl, ap, subst, sym, ◌∙◌, string_bytes}
 use Rattle.session_ops.specs.declared.entry.Call.TheVariants.{Client as ByClient}
 use Rattle.session_ops.specs.declared.entry.Op.TheVariants.{Join as Joins}
 use Rattle.session_ops.specs.declared.entry.Reply.TheVariants.{Accepted}

@@ -1,4 +1,4 @@
-use Rattle.std.proofs.Common.{◌≡◌, ◌++◌, ◌∷◌, [], refl, ap, subst, ◌∙◌, codes, string_bytes}
+use Rattle.std.proofs.Common.{◌++◌, ◌∷◌, [], refl, ap, ◌∙◌, codes, string_bytes}
 use Rattle.transcript.specs.Texts.{as_text, book_lines, rev_in}
 use Rattle.driver.specs.Lines.{no_client_words}
 use Rattle.driver.proofs.PlayerLaws.{show-nobody, show-some}

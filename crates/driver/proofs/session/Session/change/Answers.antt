@@ -1,4 +1,4 @@
-use Rattle.std.proofs.Common.{refl, subst}
+use Rattle.std.proofs.Common.{subst}
 use Rattle.driver.specs.Session.{IsJudged}
 use Rattle.driver.proofs.SessionLaws.{change-refused}
 use Rattle.driver.proofs.session.Session.change.Goals as goal

@@ -1,0 +1,88 @@
+-- What the parts of the program answer.
+use Rattle.std.specs.Prelude.{◌≡◌, ◌≢◌, ℕ, List, Option, Some, None, Result, Ok, Err}
+use Rattle.book_outside.specs.Outside.{Rose, GivesFront}
+use Rattle.livemd_read.specs.declared.types.Read.{Read}
+use Rattle.livemd_read.specs.declared.types.BookError.TheVariants.{OutOfMemory as BookMemory}
+use Rattle.livemd_read.specs.Reads.{Reads, IsBookCause}
+use Rattle.script.specs.declared.content.Content.{Content}
+use Rattle.script.specs.declared.error.ScriptError.TheVariants.{OutOfMemory as ScriptMemory}
+use Rattle.script.specs.Script.{IsScriptOf, IsScriptCause}
+use Rattle.driver.specs.declared.outcome.RunFault.{RunFault}
+use Rattle.driver.specs.declared.outcome.RunFault.TheVariants.{Usage, BookUnread, BookRefused, ScriptUnread, ScriptRefused, SinkFailed, OutOfMemory}
+use Rattle.driver.specs.declared.outcome.Outcome.{Outcome}
+use Rattle.driver.specs.declared.play.Played.{Played}
+use Rattle.driver.specs.declared.play.Played.TheVariants.{Done, SinkFailed as PlayCut, OutOfMemory as PlayMemory}
+use Rattle.driver.specs.Program.{IsPlay, BookIsAccepted, most_bytes, status_of}
+
+-- the words are in no form where there are no names
+abbrev pub WordsAnswer : {A : Type 0} → List (List ℕ) → Option A → Type 0
+WordsAnswer words None = (book script : List ℕ) → ¬ IsPlay words book script
+WordsAnswer words (Some names) = Unit {0}
+
+-- the outcome of a fault with no report
+abbrev pub ended_with : RunFault → Outcome
+ended_with fault = record { status = status_of (Some fault); fault = Some fault; report = None }
+
+abbrev pub outcome_of : Played → Outcome
+outcome_of (Done report) = record { status = 0; fault = None; report = Some report }
+outcome_of (PlayCut report) = record { status = 6; fault = Some SinkFailed; report = Some report }
+outcome_of PlayMemory = ended_with OutOfMemory
+
+-- why bytes are no book
+abbrev pub IsBookFault : List ℕ → RunFault → Type 0
+IsBookFault bytes Usage = ⊥
+IsBookFault bytes BookUnread = ⊥
+IsBookFault bytes (BookRefused why) = IsBookCause bytes why × (why ≢ BookMemory)
+IsBookFault bytes ScriptUnread = ⊥
+IsBookFault bytes (ScriptRefused why) = ⊥
+IsBookFault bytes SinkFailed = ⊥
+IsBookFault bytes OutOfMemory = Unit {0}
+
+abbrev pub BytesAreBook : List ℕ → Result Read RunFault → Type 0
+BytesAreBook bytes (Ok r) = Reads bytes r.notebook r.notices
+BytesAreBook bytes (Err fault) = IsBookFault bytes fault
+
+-- why bytes are no script
+abbrev pub IsScriptFault : List ℕ → RunFault → Type 0
+IsScriptFault bytes Usage = ⊥
+IsScriptFault bytes BookUnread = ⊥
+IsScriptFault bytes (BookRefused why) = ⊥
+IsScriptFault bytes ScriptUnread = ⊥
+IsScriptFault bytes (ScriptRefused why) = IsScriptCause bytes why × (why ≢ ScriptMemory)
+IsScriptFault bytes SinkFailed = ⊥
+IsScriptFault bytes OutOfMemory = Unit {0}
+
+abbrev pub BytesAreScript : List ℕ → Result Content RunFault → Type 0
+BytesAreScript bytes (Ok s) = IsScriptOf bytes s
+BytesAreScript bytes (Err fault) = IsScriptFault bytes fault
+
+-- the bytes of a name were read
+abbrev pub WereRead : Option (List (List ℕ × List ℕ)) → List ℕ → (List ℕ → Type 0) → Type 0
+WereRead held name P = (bytes : List ℕ) × (GivesFront held name most_bytes bytes × P bytes)
+
+abbrev pub IsBookAnswer : Option (List (List ℕ × List ℕ)) → List ℕ → ℕ → ℕ → Result Read RunFault → Type 0
+IsBookAnswer held name sf sf' (Ok r) = WereRead held name (λ bytes. Reads bytes r.notebook r.notices)
+IsBookAnswer held name sf sf' (Err Usage) = ⊥
+IsBookAnswer held name sf sf' (Err BookUnread) = Rose sf sf'
+IsBookAnswer held name sf sf' (Err (BookRefused why)) = WereRead held name (λ bytes. IsBookCause bytes why × (why ≢ BookMemory))
+IsBookAnswer held name sf sf' (Err ScriptUnread) = ⊥
+IsBookAnswer held name sf sf' (Err (ScriptRefused why)) = ⊥
+IsBookAnswer held name sf sf' (Err SinkFailed) = ⊥
+IsBookAnswer held name sf sf' (Err OutOfMemory) = Unit {0}
+
+abbrev pub IsScriptAnswer : Option (List (List ℕ × List ℕ)) → List ℕ → ℕ → ℕ → Result Content RunFault → Type 0
+IsScriptAnswer held name sf sf' (Ok s) = WereRead held name (λ bytes. IsScriptOf bytes s)
+IsScriptAnswer held name sf sf' (Err Usage) = ⊥
+IsScriptAnswer held name sf sf' (Err BookUnread) = ⊥
+IsScriptAnswer held name sf sf' (Err (BookRefused why)) = ⊥
+IsScriptAnswer held name sf sf' (Err ScriptUnread) = Rose sf sf'
+IsScriptAnswer held name sf sf' (Err (ScriptRefused why)) = WereRead held name (λ bytes. IsScriptCause bytes why × (why ≢ ScriptMemory))
+IsScriptAnswer held name sf sf' (Err SinkFailed) = ⊥
+IsScriptAnswer held name sf sf' (Err OutOfMemory) = Unit {0}
+
+-- the words name this script, and their book was read
+pub record HasReadBook (words : List (List ℕ)) (held : Option (List (List ℕ × List ℕ))) (script : List ℕ) (r : Read) : Type 0 where
+  pub accepted : BookIsAccepted words held
+  pub script_name : accepted.read.script ≡ script
+  pub notebook : accepted.notebook ≡ r.notebook
+  pub notices : accepted.notices ≡ r.notices

@@ -1,0 +1,180 @@
+//! The top call: words, shelf and sink in, the status out.
+ghost use Rattle.std.specs.Prelude.{◌≡◌, ◌≤◌, List, ℕ, Option, map, IfSome, string_bytes};
+ghost use Rattle.script.specs.Play.{IsPlayable};
+ghost use Rattle.driver.specs.Program.{IsPlay, IsAnswer, status_of};
+ghost use Rattle.driver.specs.Answers.{BytesAreBook, BytesAreScript, IsBookAnswer, IsScriptAnswer, WordsAnswer, HasReadBook, outcome_of, ended_with};
+
+use crate::outcome::{Outcome, RunFault};
+use crate::play::{Played, play};
+use book_outside::{Gate, Shelf, ShelfError, Sink};
+use livemd_read::{BookError, Read, read};
+use script::{Script, ScriptError, read_script};
+use std::alloc::Global;
+use std::sync::Wait;
+use std::thread::Threads;
+
+/// At most this many bytes of a book or a script are read: one more than either may have.
+const MOST_BYTES: u64 = 8_388_609;
+
+/// Runs the program on the words of the command line, `play BOOK SCRIPT`: it plays the script of that
+/// name over the book of that name, and writes the transcript to the sink.
+///
+/// Both are read from the shelf and may have 8,388,608 bytes. Each script line that prints is one
+/// write, and so is the end. The gate is for evaluations; nothing is evaluated yet.
+///
+/// At the statuses 1 to 5 nothing is written. At status 6 the report is of the history so far.
+pub fn program<R: Threads + Wait + Sync, S: Shelf, K: Sink + Send, G: Gate>(
+    _rt: &R,
+    alloc: Global,
+    words: &[String],
+    shelf: &mut S,
+    sink: &mut K,
+    _gate: &G,
+) -> Outcome
+    ensures status { result.status ≡ status_of result.fault }
+    ensures answer { IsAnswer (map string_bytes words.now) (S.held shelf.old) (S.faults shelf.old) (S.faults shelf.new) (K.faults sink.old) (K.faults sink.new) (K.written sink.old) (K.written sink.new) result.report result.fault }
+{
+    match play_words(words) {
+        None => ended(RunFault::Usage),
+        Some((book, script)) => run(alloc, book, script, shelf, sink),
+    }
+}
+
+/// The names of book and script in the words `play BOOK SCRIPT`.
+fn play_words(words: &[String]) -> Option<(&str, &str)>
+    ensures some { IfSome result (λ names. IsPlay (map string_bytes words.now) names.0.now names.1.now) }
+    ensures none { WordsAnswer (map string_bytes words.now) result }
+{
+    match words {
+        [mode, book, script] if mode.as_str() == "play" => Some((book.as_str(), script.as_str())),
+        _ => None,
+    }
+}
+
+/// The outcome of a fault before anything was played.
+fn ended(fault: RunFault) -> Outcome
+    ensures { result ≡ ended_with fault }
+{
+    let status = match fault {
+        RunFault::Usage => 1,
+        RunFault::BookUnread => 2,
+        RunFault::BookRefused(_) => 3,
+        RunFault::ScriptUnread => 4,
+        RunFault::ScriptRefused(_) => 5,
+        RunFault::SinkFailed => 6,
+        RunFault::OutOfMemory => 7,
+    };
+    Outcome {
+        status,
+        fault: Some(fault),
+        report: None,
+    }
+}
+
+/// Reads book and script and plays.
+fn run<S: Shelf, K: Sink>(
+    alloc: Global,
+    book: &str,
+    script: &str,
+    shelf: &mut S,
+    sink: &mut K,
+) -> Outcome
+    ensures status { result.status ≡ status_of result.fault }
+    ensures answer { (words : List (List ℕ)) → IsPlay words book.now script.now → IsAnswer words (S.held shelf.old) (S.faults shelf.old) (S.faults shelf.new) (K.faults sink.old) (K.faults sink.new) (K.written sink.old) (K.written sink.new) result.report result.fault }
+{
+    match read_book(alloc, book, shelf) {
+        Ok(book) => run_script(alloc, book, script, shelf, sink),
+        Err(fault) => ended(fault),
+    }
+}
+
+/// Reads the script and plays it over a book.
+fn run_script<S: Shelf, K: Sink>(
+    alloc: Global,
+    book: Read,
+    script: &str,
+    shelf: &mut S,
+    sink: &mut K,
+) -> Outcome
+    ensures status { result.status ≡ status_of result.fault }
+    ensures answer { (words : List (List ℕ)) → HasReadBook words (S.held shelf.old) script.now book → IsAnswer words (S.held shelf.old) (S.faults shelf.old) (S.faults shelf.new) (K.faults sink.old) (K.faults sink.new) (K.written sink.old) (K.written sink.new) result.report result.fault }
+{
+    match read_lines(alloc, script, shelf) {
+        Ok(script) => finished(play(alloc, book.notebook, script.content(), sink)),
+        Err(fault) => ended(fault),
+    }
+}
+
+/// The outcome of what was played.
+fn finished(played: Played) -> Outcome
+    ensures { result ≡ outcome_of played }
+{
+    match played {
+        Played::Done(report) => Outcome {
+            status: 0,
+            fault: None,
+            report: Some(report),
+        },
+        Played::SinkFailed(report) => Outcome {
+            status: 6,
+            fault: Some(RunFault::SinkFailed),
+            report: Some(report),
+        },
+        Played::OutOfMemory => ended(RunFault::OutOfMemory),
+    }
+}
+
+/// The book of a name.
+fn read_book<S: Shelf>(alloc: Global, name: &str, shelf: &mut S) -> Result<Read, RunFault>
+    ensures answer { IsBookAnswer (S.held shelf.old) name.now (S.faults shelf.old) (S.faults shelf.new) result }
+    ensures same { S.held shelf.new ≡ S.held shelf.old }
+    ensures counts { S.faults shelf.old ≤ S.faults shelf.new }
+{
+    match shelf.read(alloc, name, MOST_BYTES) {
+        Ok(bytes) => notebook_of(alloc, bytes.as_slice()),
+        Err(ShelfError::Failed) => Err(RunFault::BookUnread),
+        Err(ShelfError::OutOfMemory) => Err(RunFault::OutOfMemory),
+    }
+}
+
+/// The script of a name.
+fn read_lines<S: Shelf>(alloc: Global, name: &str, shelf: &mut S) -> Result<Script, RunFault>
+    ensures answer { IsScriptAnswer (S.held shelf.old) name.now (S.faults shelf.old) (S.faults shelf.new) result }
+{
+    match shelf.read(alloc, name, MOST_BYTES) {
+        Ok(bytes) => script_of(alloc, bytes.as_slice()),
+        Err(ShelfError::Failed) => Err(RunFault::ScriptUnread),
+        Err(ShelfError::OutOfMemory) => Err(RunFault::OutOfMemory),
+    }
+}
+
+/// The book that bytes are.
+fn notebook_of(alloc: Global, bytes: &[u8]) -> Result<Read, RunFault>
+    ensures { BytesAreBook bytes.now result }
+{
+    match read(alloc, bytes) {
+        Ok(book) => Ok(book),
+        Err(BookError::OutOfMemory) => Err(RunFault::OutOfMemory),
+        Err(BookError::TooLarge) => Err(RunFault::BookRefused(BookError::TooLarge)),
+        Err(BookError::NotUtf8 { at }) => Err(RunFault::BookRefused(BookError::NotUtf8 { at })),
+        Err(BookError::Unbuilt { line }) => Err(RunFault::BookRefused(BookError::Unbuilt { line })),
+        Err(BookError::TooManySections) => {
+            Err(RunFault::BookRefused(BookError::TooManySections))
+        }
+        Err(BookError::TooManyCells) => Err(RunFault::BookRefused(BookError::TooManyCells)),
+    }
+}
+
+/// The script that bytes are.
+fn script_of(alloc: Global, bytes: &[u8]) -> Result<Script, RunFault>
+    ensures { BytesAreScript bytes.now result }
+{
+    match read_script(alloc, bytes) {
+        Ok(script) => Ok(script),
+        Err(ScriptError::OutOfMemory) => Err(RunFault::OutOfMemory),
+        Err(ScriptError::TooLarge) => Err(RunFault::ScriptRefused(ScriptError::TooLarge)),
+        Err(ScriptError::At { line, kind }) => {
+            Err(RunFault::ScriptRefused(ScriptError::At { line, kind }))
+        }
+    }
+}
