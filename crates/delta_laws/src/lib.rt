@@ -108,3 +108,6 @@ fn applied(alloc: Global, delta: &Delta, text: &Text) -> Result<Text, AllocError
         Err(ApplyError::PastEnd { .. } | ApplyError::SplitsPair { .. }) => unreachable!(),
     }
 }
+
+#[cfg(test)]
+mod tests;
