@@ -1,19 +1,16 @@
 -- Packed steps are canonical.
-use Rattle.std.proofs.Common.{◌≡◌, ℕ, zero, suc, ◌+◌, ◌-◌, ◌*◌, ◌^◌, ◌<◌, ◌≤◌, ◌==◌, Bool, true, false, ◌&&◌, cond, List, [], ◌∷◌, ◌++◌, length, length-append, map, replicate, Option, Some, None, refl, sym, ap, ◌∙◌, arith, append_assoc, max}
+use Rattle.std.proofs.Common.{◌≡◌, ℕ, zero, suc, ◌+◌, ◌-◌, ◌^◌, ◌≤◌, ◌==◌, Bool, true, false, ◌&&◌, cond, List, [], ◌∷◌, ◌++◌, length, length-append, map, replicate, Option, Some, None, refl, sym, ap, ◌∙◌, arith, append_assoc, max}
 use Rattle.std.proofs.lemmas.Bool.Decides.{nat_tests}
-use Rattle.std.proofs.lemmas.List.{append-nil}
 use Rattle.std.proofs.lemmas.List.Sums.{sum_by-cons, sum_by-append}
 use Rattle.std.specs.Prelude.{nat_le, not, slice_get}
 use Rattle.delta.proofs.Halves.{unit_count-decoded}
 use Rattle.utf16_text.specs.Units.{units, unit_count, decoded}
-use Rattle.delta.proofs.Compositions.{followed_by}
-use Rattle.delta.specs.Canonical.{is_proper, may_follow, may_come_after, may_end, is_retain, keeps_rules, first_bad, bad_step, IsCanonical}
+use Rattle.delta.specs.Canonical.{is_proper, may_come_after, may_end, is_retain, keeps_rules, first_bad, bad_step}
 use Rattle.delta.specs.Compose.{mark, followed, over_base, composed_small}
-use Rattle.delta.specs.Moves.{composed, transformed}
-use Rattle.delta.specs.Pack.{first_puts, first_drops, inserting, deleting, stretch, kept, from_keep, packed}
+use Rattle.delta.specs.Pack.{first_puts, first_drops, inserting, deleting, kept, from_keep, packed}
 use Rattle.delta.specs.Spread.{Small, Keep, Drop, Put, keep, gap, small_reach, small_items}
 use Rattle.delta.specs.Steps.{passed, put_in, reach_of, inserted_by, small_steps, all_small}
-use Rattle.delta.specs.Transform.{gaps, moved, moved_over, transformed_small}
+use Rattle.delta.specs.Transform.{gaps, moved, transformed_small}
 use Rattle.delta.specs.declared.Step.{Step}
 use Rattle.delta.specs.declared.Step.TheVariants.{Retain, Insert, Delete}
 
