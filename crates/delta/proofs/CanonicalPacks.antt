@@ -90,7 +90,7 @@ stretch_follows (c ∷ cs) zero d f = (record { proper = within 1 (suc (length c
 stretch_follows (c ∷ cs) (suc n) d f =
     (record { proper = within 1 (suc (length cs)) (omega arith); follows = refl; more = refl }, (record { proper = within 1 (suc n) (omega arith); follows = refl; more = refl }, f (Some (Delete (suc n))) tt))
 
-packed_parts : (s : List Small) → packed s ≡ inserting (decoded (first_puts s)) ++ (deleting (first_drops s) ++ from_keep s)
+pub packed_parts : (s : List Small) → packed s ≡ inserting (decoded (first_puts s)) ++ (deleting (first_drops s) ++ from_keep s)
 packed_parts s = append_assoc (inserting (decoded (first_puts s))) (deleting (first_drops s)) (from_keep s)
 
 packed_follows : (s : List Small) → ((last : Option Step) → NotRetain last → Follows last (from_keep s)) → Follows None (packed s)
@@ -137,7 +137,7 @@ inserted_deleting : (n : ℕ) (d : List Step) → inserted_by (deleting n ++ d) 
 inserted_deleting zero d = refl
 inserted_deleting (suc n) d = omega (arith, sum_by-cons put_in (Delete (suc n)) d)
 
-reach_parts : (s : List Small) → reach_of (packed s) ≡ first_drops s + reach_of (from_keep s)
+pub reach_parts : (s : List Small) → reach_of (packed s) ≡ first_drops s + reach_of (from_keep s)
 reach_parts s =
     ap reach_of (packed_parts s) ∙ (reach_inserting (decoded (first_puts s)) (deleting (first_drops s) ++ from_keep s) ∙ reach_deleting (first_drops s) (from_keep s))
 
