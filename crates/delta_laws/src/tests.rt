@@ -1,5 +1,4 @@
 use super::*;
-use delta::Step;
 use std::test::Fail;
 
 /// The text of the walk over all pairs: three characters, the second of two units.
@@ -197,5 +196,8 @@ fn two_rows(rt: HostRuntime) -> Result<(), Fail> {
     let b = Delta::from_compact(vec![in alloc; Step::Retain(1), Step::Delete(1)]?)?;
     assert!(rt; are(joined(alloc, &text, &a, &b)?, "Xb"));
     assert!(rt; nothing(alloc).is_empty());
+    let far = Delta::from_compact(vec![in alloc; Step::Retain(2), Step::Delete(1)]?)?;
+    assert!(rt; reaches_past(&far, &text));
+    assert!(rt; !reaches_past(&b, &text));
     Ok(())
 }
