@@ -1,25 +1,24 @@
 -- The laws of deltas, by what each does to the characters of the text.
-use Rattle.std.proofs.Common.{◌≡◌, ℕ, zero, suc, ◌+◌, ◌≤◌, Bool, true, false, cond, List, [], ◌∷◌, ◌++◌, length, map, replicate, refl, sym, ap, ◌∙◌, arith, max}
+use Rattle.std.proofs.Common.{◌≡◌, ℕ, zero, suc, ◌+◌, ◌≤◌, Bool, true, false, cond, List, [], ◌∷◌, ◌++◌, length, replicate, refl, sym, ap, ◌∙◌, arith, max}
 use Rattle.std.proofs.lemmas.List.{append-nil, replicate-append-replicate}
 use Rattle.std.specs.Prelude.{not}
-use Rattle.utf16_text.proofs.Counts.{unit_count-cons}
 use Rattle.utf16_text.proofs.Decoding.{only_scalars, only_scalars-AreScalars, decoded-AreScalars, decoded-units-AreScalars, units-only_scalars}
-use Rattle.utf16_text.specs.Units.{units, unit_count, units_of_character, decoded, AreScalars}
+use Rattle.utf16_text.specs.Units.{units, unit_count, decoded, AreScalars}
 use Rattle.delta.proofs.Compositions.{followed_by}
 use Rattle.delta.proofs.Run.{woven_is_run}
 use Rattle.delta.specs.Moves.{FitsText, text_after, composed, transformed}
 use Rattle.delta.specs.Pack.{packed}
-use Rattle.delta.specs.Spread.{Small, Keep, Drop, Put, keep, gap, small_reach, small_items}
+use Rattle.delta.specs.Spread.{Keep, keep, gap, small_reach, small_items}
 use Rattle.delta.specs.Steps.{all_small, applied}
 use Rattle.delta.specs.Transform.{moved, moved_over, gaps}
 use Rattle.delta.specs.declared.Step.{Step}
 use Rattle.delta_laws.specs.Laws.{IsPairMoved, IsPairComposed, IsNothing, DeltaLaws}
 use Rattle.delta_laws.proofs.Following.{followed_scripts}
 use Rattle.delta_laws.proofs.Packing.{packed_script}
-use Rattle.delta_laws.proofs.Padding.{small_reach-more, small_items-more, transformed_small-more, composed_small-more, packed-more}
+use Rattle.delta_laws.proofs.Padding.{transformed_small-more, composed_small-more, packed-more}
 use Rattle.delta_laws.proofs.PastEnds.{past_end_law}
 use Rattle.delta_laws.proofs.Reaches.{reach_script, items_script}
-use Rattle.delta_laws.proofs.Scripts.{Op, Kept, Gone, New, old, new, wide, width, AreGood, IsScript, script_of, text_after-script, FitsText-from_only_scalars}
+use Rattle.delta_laws.proofs.Scripts.{Op, old, new, wide, AreGood, IsScript, script_of, text_after-script, FitsText-from_only_scalars}
 use Rattle.delta_laws.proofs.Transforming.{moved_scripts}
 
 -- a transform of deltas is the packed transform of their scripts

@@ -1,7 +1,7 @@
 -- A delta that reaches past the text does so after every other, too.
-use Rattle.std.proofs.Common.{◌≡◌, ℕ, zero, suc, ◌+◌, ◌-◌, ◌<◌, ◌≤◌, ◌==◌, ◌⊎◌, inl, inr, Bool, true, false, cond, List, [], ◌∷◌, ◌++◌, length, length-append, map, replicate, Option, Some, None, refl, sym, ap, ◌∙◌, arith, append_assoc, max}
+use Rattle.std.proofs.Common.{◌≡◌, ℕ, zero, suc, ◌+◌, ◌-◌, ◌<◌, ◌≤◌, ◌==◌, ◌⊎◌, inl, inr, Bool, true, false, cond, List, [], ◌∷◌, ◌++◌, length, map, replicate, Option, Some, None, refl, sym, ap, ◌∙◌, arith, append_assoc, max}
 use Rattle.std.proofs.lemmas.Bool.Decides.{nat_tests}
-use Rattle.std.proofs.lemmas.List.{append-nil, map-append, length-replicate}
+use Rattle.std.proofs.lemmas.List.{append-nil, map-append}
 use Rattle.std.proofs.lemmas.List.Sums.{sum_by-cons}
 use Rattle.std.specs.Prelude.{nat_le, not, slice_get, ◌&&◌}
 use Rattle.utf16_text.proofs.Counts.{unit_count-cons}
@@ -9,18 +9,18 @@ use Rattle.utf16_text.proofs.Decoding.{only_scalars, decoded-units, units-only_s
 use Rattle.utf16_text.proofs.Scalars.{AreScalars-head}
 use Rattle.utf16_text.specs.Units.{units, unit_count, decoded, begun_by, AreScalars}
 use Rattle.delta.proofs.CanonicalPacks.{packed_parts, reach_parts, reach_packed, reach_steps}
-use Rattle.delta.proofs.Packs.{puts_past, drops_past_puts, keep_past_puts}
+use Rattle.delta.proofs.Packs.{puts_past}
 use Rattle.delta.specs.Canonical.{is_proper, may_end, is_retain, keeps_rules, first_bad, IsCanonical}
 use Rattle.delta.specs.Compose.{mark}
-use Rattle.delta.specs.Moves.{FitsText, text_after, transformed}
-use Rattle.delta.specs.Pack.{first_puts, first_drops, inserting, deleting, stretch, kept, from_keep, packed}
+use Rattle.delta.specs.Moves.{FitsText, text_after}
+use Rattle.delta.specs.Pack.{first_puts, first_drops, inserting, deleting, kept, from_keep, packed}
 use Rattle.delta.specs.Spread.{Small, Keep, Drop, Put, keep, gap, small_reach, small_items}
 use Rattle.delta.specs.Steps.{passed, reach_of, small_steps, all_small}
 use Rattle.delta.specs.Transform.{gaps, moved, moved_over, transformed_small}
 use Rattle.delta.specs.declared.Step.{Step}
 use Rattle.delta.specs.declared.Step.TheVariants.{Retain, Insert, Delete}
-use Rattle.delta_laws.proofs.Padding.{keep-past, gap-past, small_reach-more, small_items-more}
-use Rattle.delta_laws.proofs.Scripts.{width_pos, IsScript, script_of, text_after-script, new}
+use Rattle.delta_laws.proofs.Padding.{keep-past, gap-past, small_reach-more}
+use Rattle.delta_laws.proofs.Scripts.{width_pos, script_of, text_after-script}
 use Rattle.delta_laws.proofs.Reaches.{reach_wide, items_script}
 use Rattle.delta_laws.specs.Ends.{is_felt, ends_felt, StaysPast}
 

@@ -1,5 +1,5 @@
 -- How a delta ends.
-use Rattle.std.specs.Prelude.{◌<◌, ℕ, nat_le, IsTrue, Bool, true, false, List, [], ◌∷◌}
+use Rattle.std.specs.Prelude.{◌<◌, ℕ, nat_le, IsTrue, Bool, false, List, [], ◌∷◌}
 use Rattle.utf16_text.specs.Units.{unit_count}
 use Rattle.delta.specs.declared.Step.{Step}
 use Rattle.delta.specs.declared.Step.TheVariants.{Retain, Insert, Delete}

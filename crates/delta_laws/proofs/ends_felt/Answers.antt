@@ -1,4 +1,4 @@
-use Rattle.std.proofs.Common.{◌≡◌, ◌∙◌, ◌-◌, ap, sym, length, [], Some, None, refl, arith}
+use Rattle.std.proofs.Common.{◌≡◌, ◌∙◌, ◌-◌, ap, sym, length, Some, None, arith}
 use Rattle.std.specs.Prelude.{slice_get}
 use Rattle.delta_laws.specs.Ends.{ends_felt}
 use Rattle.delta_laws.proofs.PastEnds.{ends_felt-last, last_rules, no_last}

@@ -1,4 +1,4 @@
-use Rattle.std.proofs.Common.{arith, ap, ◌∙◌, ◌≡◌}
+use Rattle.std.proofs.Common.{arith, ap, ◌∙◌}
 use Rattle.std.specs.Prelude.{nat_le}
 use Rattle.utf16_text.specs.Units.{unit_count}
 use Rattle.delta_laws.proofs.PastEnds.{some_units, one_felt}
