@@ -1,19 +1,16 @@
 -- Packed steps are canonical.
-use Rattle.std.proofs.Common.{◌≡◌, ℕ, zero, suc, ◌+◌, ◌-◌, ◌*◌, ◌^◌, ◌<◌, ◌≤◌, ◌==◌, Bool, true, false, ◌&&◌, cond, List, [], ◌∷◌, ◌++◌, length, length-append, map, replicate, Option, Some, None, refl, sym, ap, ◌∙◌, arith, append_assoc, max}
+use Rattle.std.proofs.Common.{◌≡◌, ℕ, zero, suc, ◌+◌, ◌-◌, ◌^◌, ◌≤◌, ◌==◌, Bool, true, false, ◌&&◌, cond, List, [], ◌∷◌, ◌++◌, length, length-append, map, replicate, Option, Some, None, refl, sym, ap, ◌∙◌, arith, append_assoc, max}
 use Rattle.std.proofs.lemmas.Bool.Decides.{nat_tests}
-use Rattle.std.proofs.lemmas.List.{append-nil}
 use Rattle.std.proofs.lemmas.List.Sums.{sum_by-cons, sum_by-append}
 use Rattle.std.specs.Prelude.{nat_le, not, slice_get}
 use Rattle.delta.proofs.Halves.{unit_count-decoded}
 use Rattle.utf16_text.specs.Units.{units, unit_count, decoded}
-use Rattle.delta.proofs.Compositions.{followed_by}
-use Rattle.delta.specs.Canonical.{is_proper, may_follow, may_come_after, may_end, is_retain, keeps_rules, first_bad, bad_step, IsCanonical}
+use Rattle.delta.specs.Canonical.{is_proper, may_come_after, may_end, is_retain, keeps_rules, first_bad, bad_step}
 use Rattle.delta.specs.Compose.{mark, followed, over_base, composed_small}
-use Rattle.delta.specs.Moves.{composed, transformed}
-use Rattle.delta.specs.Pack.{first_puts, first_drops, inserting, deleting, stretch, kept, from_keep, packed}
+use Rattle.delta.specs.Pack.{first_puts, first_drops, inserting, deleting, kept, from_keep, packed}
 use Rattle.delta.specs.Spread.{Small, Keep, Drop, Put, keep, gap, small_reach, small_items}
 use Rattle.delta.specs.Steps.{passed, put_in, reach_of, inserted_by, small_steps, all_small}
-use Rattle.delta.specs.Transform.{gaps, moved, moved_over, transformed_small}
+use Rattle.delta.specs.Transform.{gaps, moved, transformed_small}
 use Rattle.delta.specs.declared.Step.{Step}
 use Rattle.delta.specs.declared.Step.TheVariants.{Retain, Insert, Delete}
 
@@ -93,7 +90,7 @@ stretch_follows (c ∷ cs) zero d f = (record { proper = within 1 (suc (length c
 stretch_follows (c ∷ cs) (suc n) d f =
     (record { proper = within 1 (suc (length cs)) (omega arith); follows = refl; more = refl }, (record { proper = within 1 (suc n) (omega arith); follows = refl; more = refl }, f (Some (Delete (suc n))) tt))
 
-packed_parts : (s : List Small) → packed s ≡ inserting (decoded (first_puts s)) ++ (deleting (first_drops s) ++ from_keep s)
+pub packed_parts : (s : List Small) → packed s ≡ inserting (decoded (first_puts s)) ++ (deleting (first_drops s) ++ from_keep s)
 packed_parts s = append_assoc (inserting (decoded (first_puts s))) (deleting (first_drops s)) (from_keep s)
 
 packed_follows : (s : List Small) → ((last : Option Step) → NotRetain last → Follows last (from_keep s)) → Follows None (packed s)
@@ -140,7 +137,7 @@ inserted_deleting : (n : ℕ) (d : List Step) → inserted_by (deleting n ++ d) 
 inserted_deleting zero d = refl
 inserted_deleting (suc n) d = omega (arith, sum_by-cons put_in (Delete (suc n)) d)
 
-reach_parts : (s : List Small) → reach_of (packed s) ≡ first_drops s + reach_of (from_keep s)
+pub reach_parts : (s : List Small) → reach_of (packed s) ≡ first_drops s + reach_of (from_keep s)
 reach_parts s =
     ap reach_of (packed_parts s) ∙ (reach_inserting (decoded (first_puts s)) (deleting (first_drops s) ++ from_keep s) ∙ reach_deleting (first_drops s) (from_keep s))
 

@@ -1,8 +1,6 @@
 -- What a composition does, and its runs.
-use Rattle.std.proofs.Common.{◌≡◌, ℕ, zero, suc, Bool, true, false, cond, List, [], ◌∷◌, ◌++◌, length, map, replicate, refl, sym, ap, ◌∙◌, arith, append_assoc}
-use Rattle.std.proofs.lemmas.List.{append-nil}
-use Rattle.delta.specs.Spread.{Small, Keep, Drop, Put, keep, gap, woven}
-use Rattle.delta.proofs.Run.{run, run-puts}
+use Rattle.std.proofs.Common.{◌≡◌, ℕ, zero, suc, Bool, true, false, List, [], ◌∷◌, ◌++◌, length, map, replicate, refl, ap}
+use Rattle.delta.specs.Spread.{Small, Keep, Drop, Put, keep, gap}
 use Rattle.delta.specs.Compose.{mark, followed}
 
 -- the second over the first, whose base is given

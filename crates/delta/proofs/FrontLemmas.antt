@@ -1,10 +1,10 @@
 -- Runs that are still to come.
-use Rattle.std.proofs.Common.{◌≡◌, ℕ, zero, suc, ◌+◌, ◌-◌, ◌^◌, ◌<◌, ◌≤◌, Bool, true, false, List, [], ◌∷◌, ◌++◌, length, length-append, map, replicate, take, drop, refl, sym, ap, ◌∙◌, arith, append_assoc, zero-add, Bor}
-use Rattle.std.proofs.lemmas.List.{append-nil, length-map, length-replicate, map-append, take-append-drop, take_all, length-drop}
+use Rattle.std.proofs.Common.{◌≡◌, ℕ, zero, suc, ◌+◌, ◌-◌, ◌<◌, ◌≤◌, List, [], ◌∷◌, ◌++◌, length, length-append, map, replicate, take, drop, refl, sym, ap, ◌∙◌, arith, append_assoc, zero-add, Bor}
+use Rattle.std.proofs.lemmas.List.{append-nil, length-map, map-append, take-append-drop, take_all, length-drop}
 use Rattle.std.proofs.lemmas.List.Concat.{flat_map-append}
-use Rattle.delta.specs.Fronts.{IsFront, IsHead, HasRun, HasMore, IsPast, IsShorter, IsNewOf, IsLongest, left, head_small, run_of, is_new}
+use Rattle.delta.specs.Fronts.{IsFront, IsHead, HasRun, HasMore, IsPast, IsShorter, IsLongest, left, head_small, run_of}
 use Rattle.delta.specs.Runs.{run_small, all_runs, AllRuns, AppendsRun, IsRun}
-use Rattle.delta.specs.Spread.{Small, Keep, Drop, Put, gap}
+use Rattle.delta.specs.Spread.{Small, Keep, Drop, Put}
 use Rattle.delta.specs.Steps.{small_steps}
 use Rattle.delta.specs.declared.Step.{Step}
 use Rattle.delta.specs.declared.front.Run.{Run}

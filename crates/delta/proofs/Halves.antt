@@ -1,9 +1,9 @@
 -- How many units are left where halves of pairs that stand alone are left out.
-use Rattle.std.proofs.Common.{◌≡◌, ℕ, ◌+◌, ◌<◌, ◌≤◌, Bool, true, false, ◌&&◌, cond, List, [], ◌∷◌, ◌++◌, length, refl, ap, ◌∙◌, arith}
+use Rattle.std.proofs.Common.{◌≡◌, ℕ, ◌+◌, ◌<◌, ◌≤◌, Bool, true, false, ◌&&◌, cond, List, [], ◌∷◌, length, refl, arith}
 use Rattle.std.proofs.lemmas.Bool.Decides.{nat_tests}
 use Rattle.std.specs.Prelude.{nat_lt}
 use Rattle.utf16_text.proofs.Counts.{unit_count-append, unit_count-cons}
-use Rattle.utf16_text.specs.Units.{units, unit_count, units_of_character, decoded, begun_by, paired_with_next, character_of_pair, is_high_half, is_low_half, is_scalar}
+use Rattle.utf16_text.specs.Units.{unit_count, units_of_character, decoded, begun_by, paired_with_next, character_of_pair, is_high_half, is_low_half, is_scalar}
 
 -- a list that begins with a low half has a unit more than it stands for
 abbrev low_first : List ℕ → ℕ

@@ -1,16 +1,16 @@
 -- The turns of a composition.
-use Rattle.std.proofs.Common.{◌≡◌, ℕ, zero, suc, ◌+◌, ◌-◌, ◌^◌, ◌<◌, ◌≤◌, Bool, true, false, cond, List, [], ◌∷◌, ◌++◌, length, length-append, map, replicate, take, refl, sym, ap, ◌∙◌, arith, append_assoc}
-use Rattle.std.proofs.lemmas.List.{append-nil, length-take}
+use Rattle.std.proofs.Common.{◌≡◌, ℕ, zero, suc, ◌+◌, ◌-◌, ◌^◌, ◌<◌, ◌≤◌, Bool, true, false, List, [], ◌∷◌, ◌++◌, length, length-append, map, replicate, take, refl, sym, ap, ◌∙◌, arith, append_assoc}
+use Rattle.std.proofs.lemmas.List.{length-take}
 use Rattle.delta.proofs.Compositions.{followed_by, drops_first, keeps_meet, puts_kept, puts_gone, put_before_keep, put_before_put, put_at_end}
 use Rattle.delta.proofs.FrontLemmas.{ended}
 use Rattle.delta.proofs.MoveTurns.{fewer_by, head_any, new_length}
 use Rattle.delta.proofs.PackerLemmas.{head_reach}
-use Rattle.delta.specs.Compose.{mark, followed, over_base, composed_small}
+use Rattle.delta.specs.Compose.{mark, over_base, composed_small}
 use Rattle.delta.specs.Fronts.{IsFront, IsHead, HasRun, IsPast, IsNewOf, left, head_small, run_of, is_new, is_gone}
 use Rattle.delta.specs.Pack.{packed}
 use Rattle.delta.specs.Packers.{packs, TakesSteps}
 use Rattle.delta.specs.Runs.{all_runs}
-use Rattle.delta.specs.Spread.{Small, Keep, Drop, Put, keep, gap, small_reach, small_items}
+use Rattle.delta.specs.Spread.{Small, Keep, Drop, Put, small_reach, small_items}
 use Rattle.delta.specs.Turns.{IsJoinTurn, IsJoined}
 use Rattle.delta.specs.declared.front.Run.{Run}
 use Rattle.delta.specs.declared.front.Head.{Head}

@@ -1,13 +1,13 @@
 -- The turns of a pack.
-use Rattle.std.proofs.Common.{◌≡◌, ℕ, suc, ◌+◌, ◌^◌, ◌<◌, ◌≤◌, List, [], ◌∷◌, ◌++◌, length, get_or, drop, refl, sym, ap, ◌∙◌, arith}
+use Rattle.std.proofs.Common.{◌≡◌, ℕ, ◌+◌, ◌^◌, ◌<◌, ◌≤◌, List, [], ◌++◌, length, get_or, drop, sym, ap, ◌∙◌, arith}
 use Rattle.std.proofs.Math.ListN.{drop_of_length-le}
-use Rattle.delta.proofs.PackerLemmas.{head_reach, small_reach-append}
+use Rattle.delta.proofs.PackerLemmas.{head_reach}
 use Rattle.delta.proofs.Walk.{drop_item}
 use Rattle.delta.specs.Fronts.{head_small}
 use Rattle.delta.specs.Pack.{packed}
 use Rattle.delta.specs.Packers.{packs, TakesSteps}
 use Rattle.delta.specs.Runs.{all_runs, run_small}
-use Rattle.delta.specs.Spread.{Small, small_reach}
+use Rattle.delta.specs.Spread.{small_reach}
 use Rattle.delta.specs.declared.front.Run.{Run}
 use Rattle.delta.specs.declared.front.Head.{Head}
 use Rattle.delta.specs.declared.packer.Packer.{Packer}

@@ -1,11 +1,10 @@
 -- What a packer holds.
-use Rattle.std.proofs.Common.{◌≡◌, ℕ, zero, suc, ◌+◌, ◌<◌, ◌≤◌, List, [], ◌∷◌, ◌++◌, length, map, replicate, refl, sym, ap, ◌∙◌, arith, append_assoc, zero-add, add-zero}
+use Rattle.std.proofs.Common.{◌≡◌, ℕ, zero, suc, ◌+◌, List, [], ◌∷◌, ◌++◌, map, replicate, refl, sym, ap, ◌∙◌, arith, append_assoc, add-zero}
 use Rattle.std.proofs.lemmas.List.{append-nil}
 use Rattle.utf16_text.specs.Units.{decoded}
 use Rattle.delta.specs.Pack.{first_puts, first_drops, inserting, deleting, from_keep, packed}
 use Rattle.delta.specs.Packers.{kept_many, retaining, packs, IsFlushed, TakesSteps}
 use Rattle.delta.specs.Spread.{Small, Keep, Drop, Put, small_reach}
-use Rattle.delta.specs.declared.Step.{Step}
 use Rattle.delta.specs.Fronts.{head_small}
 use Rattle.delta.specs.declared.front.Head.{Head}
 use Rattle.delta.specs.declared.front.Head.TheVariants.{Kept, Gone}

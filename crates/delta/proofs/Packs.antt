@@ -1,11 +1,10 @@
 -- Packing, stretch by stretch.
-use Rattle.std.proofs.Common.{◌≡◌, ℕ, zero, suc, ◌+◌, ◌<◌, ◌≤◌, ◌==◌, Bool, true, false, List, [], ◌∷◌, ◌++◌, length, map, replicate, refl, sym, ap, ◌∙◌, arith, append_assoc, zero-add, add-zero}
+use Rattle.std.proofs.Common.{◌≡◌, ℕ, zero, suc, ◌+◌, ◌==◌, true, List, [], ◌∷◌, ◌++◌, length, map, replicate, refl, ap, ◌∙◌, arith, append_assoc, zero-add}
 use Rattle.std.proofs.lemmas.Bool.Decides.{nat_tests}
-use Rattle.std.proofs.lemmas.List.{append-nil}
 use Rattle.utf16_text.specs.Units.{decoded}
-use Rattle.delta.specs.Pack.{first_puts, first_drops, inserting, deleting, stretch, kept, from_keep, packed}
+use Rattle.delta.specs.Pack.{first_puts, first_drops, inserting, deleting, kept, from_keep, packed}
 use Rattle.delta.specs.Packers.{kept_many, retaining}
-use Rattle.delta.specs.Spread.{Small, Keep, Drop, Put, small_reach}
+use Rattle.delta.specs.Spread.{Small, Keep, Drop, Put}
 use Rattle.delta.specs.declared.Step.{Step}
 use Rattle.delta.specs.declared.Step.TheVariants.{Retain, Insert, Delete}
 

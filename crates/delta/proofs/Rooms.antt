@@ -1,11 +1,11 @@
 -- What is packed, composed or transformed within the limit is a delta.
-use Rattle.std.proofs.Common.{◌≡◌, ℕ, ◌+◌, ◌^◌, ◌≤◌, Bool, List, Option, None, refl, sym, ap, ◌∙◌, arith}
+use Rattle.std.proofs.Common.{◌≡◌, ◌^◌, ◌≤◌, Bool, List, None, arith}
 use Rattle.delta.proofs.CanonicalPacks.{packed_good, reach_steps, puts_steps, transform_reach, transform_puts, compose_reach, compose_puts}
 use Rattle.delta.specs.Canonical.{bad_step}
 use Rattle.delta.specs.Compose.{composed_small}
 use Rattle.delta.specs.Moves.{composed, transformed, HaveRoom}
 use Rattle.delta.specs.Pack.{packed}
-use Rattle.delta.specs.Spread.{Small, small_reach}
+use Rattle.delta.specs.Spread.{small_reach}
 use Rattle.delta.specs.Steps.{reach_of, inserted_by, all_small}
 use Rattle.delta.specs.Transform.{transformed_small}
 use Rattle.delta.specs.declared.Step.{Step}

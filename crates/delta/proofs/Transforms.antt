@@ -1,10 +1,9 @@
 -- A transform takes runs at a time.
-use Rattle.std.proofs.Common.{◌≡◌, ℕ, zero, suc, ◌+◌, Bool, true, false, cond, List, [], ◌∷◌, ◌++◌, length, map, replicate, refl, sym, ap, ◌∙◌, arith, append_assoc, zero-add, max}
-use Rattle.std.proofs.lemmas.List.{append-nil}
-use Rattle.delta.specs.Spread.{Small, Keep, Drop, Put, keep, gap}
+use Rattle.std.proofs.Common.{◌≡◌, ℕ, zero, suc, ◌+◌, Bool, true, false, cond, List, [], ◌∷◌, ◌++◌, length, map, replicate, refl, ap, arith, zero-add, max}
+use Rattle.delta.specs.Spread.{Small, Keep, Drop, Put, gap}
 use Rattle.delta.specs.Compose.{mark}
 use Rattle.delta.specs.Spread.{small_reach}
-use Rattle.delta.specs.Transform.{gaps, moved, moved_over, transformed_small}
+use Rattle.delta.specs.Transform.{moved_over, transformed_small}
 
 suc-plus : (m n : ℕ) → suc m + n ≡ suc (m + n)
 suc-plus m n = omega arith

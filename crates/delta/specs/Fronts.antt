@@ -1,5 +1,5 @@
 -- Runs that are still to come, of which the first may be used in part.
-use Rattle.std.specs.Prelude.{◌≡◌, ℕ, ◌-◌, ◌^◌, ◌<◌, ◌≤◌, Bool, true, false, List, [], ◌∷◌, ◌++◌, map, replicate, take, drop, length}
+use Rattle.std.specs.Prelude.{◌≡◌, ℕ, ◌-◌, ◌^◌, ◌<◌, ◌≤◌, Bool, true, false, List, [], ◌++◌, map, replicate, take, drop, length}
 use Rattle.delta.specs.Spread.{Small, Keep, Drop, Put}
 use Rattle.delta.specs.Runs.{all_runs, AllRuns}
 use Rattle.delta.specs.declared.front.Run.{Run}

@@ -1,7 +1,7 @@
 -- What a packer holds.
 use Rattle.std.specs.Prelude.{◌≡◌, ℕ, zero, suc, ◌+◌, ◌≤◌, List, [], ◌∷◌, ◌++◌, map, replicate}
 use Rattle.utf16_text.specs.Units.{decoded}
-use Rattle.delta.specs.Spread.{Small, Keep, Drop, Put, small_reach}
+use Rattle.delta.specs.Spread.{Small, Drop, Put, small_reach}
 use Rattle.delta.specs.Pack.{inserting, deleting, kept, packed}
 use Rattle.delta.specs.declared.Step.{Step}
 use Rattle.delta.specs.declared.Step.TheVariants.{Retain}

@@ -1,5 +1,5 @@
 -- The steps of a delta as runs over units.
-use Rattle.std.specs.Prelude.{◌≡◌, ℕ, ◌<◌, List, [], ◌∷◌, ◌++◌, map, replicate, length}
+use Rattle.std.specs.Prelude.{◌≡◌, ◌<◌, List, [], ◌∷◌, ◌++◌, map, replicate, length}
 use Rattle.std.specs.List.{flat_map}
 use Rattle.delta.specs.Spread.{Small, Keep, Drop, Put}
 use Rattle.delta.specs.Steps.{small_steps}

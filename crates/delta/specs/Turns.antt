@@ -1,6 +1,5 @@
 -- One turn of a walk over two fronts.
-use Rattle.std.specs.Prelude.{◌≡◌, ℕ, ◌+◌, ◌<◌, Bool, true, false, List, [], ◌++◌, length, take}
-use Rattle.delta.specs.Spread.{Small}
+use Rattle.std.specs.Prelude.{◌≡◌, ℕ, ◌+◌, ◌<◌, Bool, ◌++◌, length, take}
 use Rattle.delta.specs.Compose.{composed_small}
 use Rattle.delta.specs.Transform.{transformed_small}
 use Rattle.delta.specs.Fronts.{left, head_small, IsFront, IsNewOf}

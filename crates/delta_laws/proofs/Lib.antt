@@ -2,5 +2,7 @@ pub mod Following
 pub mod Laws
 pub mod Packing
 pub mod Padding
+pub mod PastEnds
+pub mod Reaches
 pub mod Scripts
 pub mod Transforming

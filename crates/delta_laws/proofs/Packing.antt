@@ -1,5 +1,5 @@
 -- A script, packed, is a delta that fits its old text and makes its new one.
-use Rattle.std.proofs.Common.{◌≡◌, ℕ, zero, suc, ◌+◌, ◌<◌, ◌≤◌, true, None, List, [], ◌∷◌, ◌++◌, length, map, replicate, refl, sym, ap, ◌∙◌, arith, append_assoc, zero-add}
+use Rattle.std.proofs.Common.{◌≡◌, ℕ, zero, suc, ◌+◌, ◌<◌, ◌≤◌, true, None, List, [], ◌∷◌, ◌++◌, length, map, replicate, refl, sym, ap, ◌∙◌, arith, append_assoc}
 use Rattle.std.proofs.lemmas.List.Sums.{sum_by-cons}
 use Rattle.utf16_text.proofs.Counts.{units-append, unit_count-append, unit_count-cons, whole_at}
 use Rattle.utf16_text.proofs.Decoding.{decoded-units-AreScalars}
@@ -10,7 +10,7 @@ use Rattle.delta.proofs.Run.{run, run-drops, run-puts, woven_is_run}
 use Rattle.delta.specs.Moves.{FitsText, text_after}
 use Rattle.delta.specs.Pack.{first_puts, first_drops, inserting, deleting, kept, from_keep, packed}
 use Rattle.delta.specs.Packers.{kept_many}
-use Rattle.delta.specs.Spread.{Small, Keep, Drop, Put}
+use Rattle.delta.specs.Spread.{Drop, Put}
 use Rattle.delta.specs.Steps.{passed, reach_of, all_small, cuts_from, first_broken}
 use Rattle.delta.specs.declared.Step.{Step}
 use Rattle.delta.specs.declared.Step.TheVariants.{Retain, Insert, Delete}

@@ -67,7 +67,7 @@ gap-more (Drop ∷ s) k (suc i) = gap-more s k i
 gap-more (Put u ∷ s) k zero = ap (λ w. u ∷ w) (gap-more s k zero)
 gap-more (Put u ∷ s) k (suc i) = gap-more s k (suc i)
 
-keep-past : (s : List Small) (i : ℕ) → small_reach s ≤ i → keep s i ≡ true
+pub keep-past : (s : List Small) (i : ℕ) → small_reach s ≤ i → keep s i ≡ true
 keep-past [] i le = refl
 keep-past (Keep ∷ s) zero le = absurd (omega arith)
 keep-past (Keep ∷ s) (suc i) le = keep-past s i (omega arith)
@@ -75,7 +75,7 @@ keep-past (Drop ∷ s) zero le = absurd (omega arith)
 keep-past (Drop ∷ s) (suc i) le = keep-past s i (omega arith)
 keep-past (Put u ∷ s) i le = keep-past s i le
 
-gap-past : (s : List Small) (i : ℕ) → small_reach s < i → gap s i ≡ []
+pub gap-past : (s : List Small) (i : ℕ) → small_reach s < i → gap s i ≡ []
 gap-past [] i lt = refl
 gap-past (Keep ∷ s) zero lt = absurd (omega arith)
 gap-past (Keep ∷ s) (suc i) lt = gap-past s i (omega arith)

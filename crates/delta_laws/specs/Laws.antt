@@ -1,7 +1,9 @@
 -- What deltas keep to, whatever the text.
-use Rattle.std.specs.Prelude.{◌≡◌, ℕ, Bool, not, List, [], length}
-use Rattle.utf16_text.specs.Units.{AreScalars}
+use Rattle.std.specs.Prelude.{◌≡◌, ◌<◌, IsTrue, ℕ, Bool, not, List, [], length}
+use Rattle.utf16_text.specs.Units.{unit_count, AreScalars}
 use Rattle.delta.specs.declared.Step.{Step}
+use Rattle.delta_laws.specs.Ends.{ends_felt, StaysPast}
+use Rattle.delta.specs.Steps.{reach_of}
 use Rattle.delta.specs.Moves.{FitsText, text_after, composed, transformed}
 
 -- two deltas that fit a text: each, as it goes after the other, fits the text that the other makes, and both orders make one text
@@ -28,5 +30,7 @@ pub record DeltaLaws : Type 0 where
   -- the empty delta is the one without steps, and does nothing
   pub empty : (d : List Step) → length d ≡ 0 → d ≡ []
   pub nothing : IsNothing []
+  -- a delta that reaches past a text does so after any other that fits
+  pub past_end : (right_first : Bool) (x d : List Step) (t : List ℕ) → FitsText x t → IsTrue (ends_felt d) → unit_count t < reach_of d → StaysPast right_first x d t
   -- what a delta makes of a text is a text
   pub makes_text : (d : List Step) (t : List ℕ) → AreScalars (text_after d t)

@@ -8,14 +8,18 @@
 //! `delta_laws` of `proofs/` gives: it is the only lemma on deltas that clients and servers need.
 #![tactic(auto)]
 
-ghost use Rattle.std.specs.Prelude.{◌≡◌, [], true, false, IfOk};
+ghost use Rattle.std.specs.Prelude.{◌≡◌, ◌<◌, ◌↔◌, [], true, false, length, IsTrue, IfOk};
+ghost use Rattle.utf16_text.specs.Units.{unit_count};
+ghost use Rattle.delta.specs.Canonical.{is_proper, is_retain};
+ghost use Rattle.delta.specs.Steps.{reach_of};
 ghost use Rattle.delta.specs.Moves.{FitsText, HaveRoom, text_after, composed, transformed};
+ghost use Rattle.delta_laws.specs.Ends.{is_felt, ends_felt};
 ghost use Rattle.delta_laws.specs.Laws.{IsNothing};
 ghost use Rattle.delta_laws.specs.Pairs.{IsBothOrders, IsInTwo};
 
-use delta::{ApplyError, Delta, Side, compose, have_room, transform};
+use delta::{ApplyError, Delta, Side, Step, compose, have_room, transform};
 use std::alloc::{AllocError, Global};
-use utf16_text::Text;
+use utf16_text::{Text, unit_len};
 
 /// Two texts that a law says are equal.
 #[derive(Debug, Drop)]
@@ -65,6 +69,38 @@ pub fn nothing(alloc: Global) -> Delta
     }
 }
 
+/// Whether a delta reaches past a text: then it fits neither this text nor, moved over them, what any
+/// other deltas make of it. It takes no memory.
+pub fn reaches_past(delta: &Delta, text: &Text) -> bool
+    ensures past { IsTrue result ↔ (unit_count text.now < reach_of delta.now) }
+    ensures felt { IsTrue result → IsTrue (ends_felt delta.now) }
+{
+    unit_len(text.as_str()) < delta.reach() && ends_felt(delta)
+}
+
+/// Whether the last step puts a unit in or drops one, as that of every delta does that is not empty.
+fn ends_felt(delta: &Delta) -> bool
+    ensures value { result ≡ ends_felt delta.now }
+    ensures some { 0 < length delta.now → result ≡ true }
+{
+    match delta.to_compact().last() {
+        None => false,
+        Some(step) => is_felt(step),
+    }
+}
+
+/// Whether a step puts a unit in or drops one.
+fn is_felt(step: &Step) -> bool
+    ensures value { result ≡ is_felt step.now }
+    ensures some { is_proper step.now ≡ true → is_retain step.now ≡ false → result ≡ true }
+{
+    match step {
+        Step::Retain(_) => false,
+        Step::Insert(text) => unit_len(text.as_str()) >= 1,
+        Step::Delete(n) => *n >= 1,
+    }
+}
+
 fn a_first(alloc: Global, text: &Text, a: &Delta, b: &Delta) -> Result<Text, AllocError>
     requires a_fits { FitsText a.now text.now }
     requires b_fits { FitsText b.now text.now }
@@ -108,3 +144,6 @@ fn applied(alloc: Global, delta: &Delta, text: &Text) -> Result<Text, AllocError
         Err(ApplyError::PastEnd { .. } | ApplyError::SplitsPair { .. }) => unreachable!(),
     }
 }
+
+#[cfg(test)]
+mod tests;

@@ -1,7 +1,7 @@
 use Rattle.std.proofs.Common.{refl, ◌∙◌, ap, ◌++◌}
 use Rattle.utf16_text.specs.Units.{decoded}
 use Rattle.delta.specs.Pack.{inserting, deleting}
-use Rattle.delta.proofs.PackerLemmas.{flushed_empty, flushed_some}
+use Rattle.delta.proofs.PackerLemmas.{flushed_some}
 use Rattle.delta.proofs.packer.Packer.flush.Goals as goal
 
 pub returns : goal.returns

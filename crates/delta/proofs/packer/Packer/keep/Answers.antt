@@ -1,4 +1,3 @@
-use Rattle.std.proofs.Common.{arith}
 use Rattle.delta.proofs.PackerLemmas.{take_keeps}
 use Rattle.delta.proofs.packer.Packer.keep.Goals as goal
 

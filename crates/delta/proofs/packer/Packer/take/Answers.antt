@@ -1,5 +1,4 @@
 use Rattle.std.proofs.Common.{arith}
-use Rattle.std.proofs.lemmas.List.{append-nil}
 use Rattle.delta.proofs.PackerLemmas.{take_drops, head_reach_kept, head_reach_gone}
 use Rattle.delta.proofs.packer.Packer.take.Goals as goal
 
