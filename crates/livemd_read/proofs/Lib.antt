@@ -1,4 +1,5 @@
 mod Building
+pub mod Causes
 mod Fronts
 mod Loop
 pub mod Numbering

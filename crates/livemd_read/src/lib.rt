@@ -12,3 +12,6 @@ mod types;
 
 pub use reader::read;
 pub use types::{BookError, Notice, NoticeKind, Read};
+
+#[cfg(test)]
+mod tests;
