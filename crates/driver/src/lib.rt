@@ -13,3 +13,6 @@ mod top;
 
 pub use outcome::{Outcome, Report, RunFault};
 pub use top::program;
+
+#[cfg(test)]
+mod tests;

@@ -1,0 +1,139 @@
+//! Worked scripts, through the top call over a shelf and a sink in memory.
+use crate::{Outcome, RunFault, program};
+use book_outside::{MemoryShelf, MemorySink, PlainGate};
+use livemd_read::BookError;
+use script::{LineFault, ScriptError};
+use std::alloc::Global;
+use std::sync::Wait;
+use std::test::Fail;
+use std::thread::Threads;
+
+/// The book with the name `T` and a section `S` with one text line.
+const BOOK: &str = "# T\n\n## S\n\nab\n";
+
+const SCRIPT: &str = "join ann\nedit ann 1 [1,\"X\"]\nsync\nshow ann\n";
+
+const TRANSCRIPT: &str =
+    "ann joined at 1\nann edit 1: ok\nann sent: accepted rev 1\nsync at 2\nnotebook \"T\"\nsection 1 \"S\"\ncell 1 markdown rev 1 \"aXb\"\nend\nnotebook \"T\"\nsection 1 \"S\"\ncell 1 markdown rev 1 \"aXb\"\n";
+
+fn words(alloc: Global) -> Result<Vec<String>, Fail> {
+    let mut words = Vec::new(alloc);
+    words.push(String::from_str(alloc, "play")?)?;
+    words.push(String::from_str(alloc, "b")?)?;
+    words.push(String::from_str(alloc, "s")?)?;
+    Ok(words)
+}
+
+fn shelf(alloc: Global, names: &[&str], texts: &[&str]) -> Result<MemoryShelf, Fail> {
+    let mut books = Vec::new(alloc);
+    for (name, text) in names.iter().zip(texts) {
+        let bytes = Vec::from_slice(alloc, text.as_bytes())?;
+        books.push((String::from_str(alloc, name)?, bytes))?;
+    }
+    Ok(MemoryShelf::new(books, Vec::new(alloc)))
+}
+
+/// The status and what was written.
+fn run<R: Threads + Wait + Sync>(
+    rt: &R,
+    alloc: Global,
+    names: &[&str],
+    texts: &[&str],
+    failing: &[u64],
+) -> Result<(Outcome, Vec<u8>), Fail> {
+    let mut shelf = shelf(alloc, names, texts)?;
+    let mut sink = MemorySink::new(alloc, Vec::from_slice(alloc, failing)?);
+    let words = words(alloc)?;
+    let outcome = program(
+        rt,
+        alloc,
+        words.as_slice(),
+        &mut shelf,
+        &mut sink,
+        &PlainGate,
+    );
+    Ok((outcome, Vec::from_slice(alloc, sink.bytes())?))
+}
+
+#[test]
+fn an_edit_is_played(rt: HostRuntime) -> Result<(), Fail> {
+    let (outcome, written) = run(&rt, rt.alloc(), &["b", "s"], &[BOOK, SCRIPT], &[])?;
+    assert_eq!(rt; outcome.status, 0);
+    assert_eq!(rt; outcome.fault, None);
+    assert_eq!(rt; written.as_slice(), TRANSCRIPT.as_bytes());
+    let report = outcome.report.ok_or("a report")?;
+    assert_eq!(rt; report.marks.as_slice(), [2, 2].as_slice());
+    assert_eq!(rt; report.history.len(), 2);
+    Ok(())
+}
+
+#[test]
+fn scripts_print(rt: HostRuntime) -> Result<(), Fail> {
+    let (outcome, written) = run(&rt, rt.alloc(), &["b", "s"], &["", ""], &[])?;
+    assert_eq!(rt; outcome.status, 0);
+    assert_eq!(rt;
+        written.as_slice(),
+        b"end\nnotebook \"Untitled notebook\"\n".as_slice()
+    );
+    let script = "join ann\nedit ann 1 [3,\"X\"]\nsync\nedit ann 1 [2,\"Y\"]\nshow ann\n";
+    let (outcome, written) = run(
+        &rt,
+        rt.alloc(),
+        &["b", "s"],
+        &["# T\n\n## S\n\na\u{1F600}b\n", script],
+        &[],
+    )?;
+    assert_eq!(rt; outcome.status, 0);
+    let told =
+        "ann joined at 1\nann edit 1: ok\nann sent: accepted rev 1\nsync at 2\nann edit 1: refused SplitsPair 2\nnotebook \"T\"\nsection 1 \"S\"\ncell 1 markdown rev 1 \"a\u{1F600}Xb\"\nend\nnotebook \"T\"\nsection 1 \"S\"\ncell 1 markdown rev 1 \"a\u{1F600}Xb\"\n";
+    assert_eq!(rt; written.as_slice(), told.as_bytes());
+    let script =
+        "join ann\nedit ann 0 [\"A\"]\nshow ann\nsync\nedit ann 9 []\nsync\nedit ann 0 [5,\"B\"]\n";
+    let (outcome, written) = run(&rt, rt.alloc(), &["b", "s"], &["", script], &[])?;
+    assert_eq!(rt; outcome.status, 0);
+    let told =
+        "ann joined at 1\nann edit 0: ok\nnotebook \"Untitled notebook\"\ncell 0 setup rev 0 \"A\"\nann sent: accepted rev 1\nsync at 2\nann edit 9: refused NoCell\nsync at 2\nann edit 0: refused PastEnd 1\nend\nnotebook \"Untitled notebook\"\ncell 0 setup rev 1 \"A\"\ncode 0 main ready fresh\n";
+    assert_eq!(rt; written.as_slice(), told.as_bytes());
+    Ok(())
+}
+
+#[test]
+fn faults_are_told(rt: HostRuntime) -> Result<(), Fail> {
+    let (outcome, written) = run(&rt, rt.alloc(), &["s"], &[SCRIPT], &[])?;
+    assert_eq!(rt; outcome.status, 2);
+    assert_eq!(rt; written.len(), 0);
+    let (outcome, _) = run(&rt, rt.alloc(), &["b"], &[BOOK], &[])?;
+    assert_eq!(rt; outcome.status, 4);
+    let (outcome, _) = run(
+        &rt,
+        rt.alloc(),
+        &["b", "s"],
+        &["# T\n\n## S\n\n```\n", SCRIPT],
+        &[],
+    )?;
+    assert_eq!(rt; outcome.status, 3);
+    assert_eq!(rt;
+        outcome.fault,
+        Some(RunFault::BookRefused(BookError::Unbuilt { line: 5 }))
+    );
+    let (outcome, written) = run(
+        &rt,
+        rt.alloc(),
+        &["b", "s"],
+        &[BOOK, "join ann\nsend ann 1\n"],
+        &[],
+    )?;
+    assert_eq!(rt; outcome.status, 5);
+    let why = ScriptError::At {
+        line: 2,
+        kind: LineFault::Unbuilt,
+    };
+    assert_eq!(rt; outcome.fault, Some(RunFault::ScriptRefused(why)));
+    assert_eq!(rt; written.len(), 0);
+    let (outcome, written) = run(&rt, rt.alloc(), &["b", "s"], &[BOOK, SCRIPT], &[2])?;
+    assert_eq!(rt; outcome.status, 6);
+    assert_eq!(rt; written.as_slice(), b"ann joined at 1\n".as_slice());
+    let report = outcome.report.ok_or("a report")?;
+    assert_eq!(rt; report.history.len(), 1);
+    Ok(())
+}
