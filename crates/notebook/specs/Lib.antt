@@ -1,3 +1,5 @@
 pub mod Book
 pub mod Places
 pub mod Rules
+pub mod Flow
+pub mod Validity

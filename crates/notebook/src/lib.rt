@@ -7,6 +7,8 @@
 mod book;
 mod cells;
 mod parts;
+mod states;
 
 pub use book::Notebook;
 pub use parts::{Cell, CellId, Kind, Parts, Saved, Section, SectionId};
+pub use states::{Lane, Status, Validity};

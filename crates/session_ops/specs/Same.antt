@@ -3,9 +3,9 @@ use Rattle.std.specs.Prelude.{ℕ, ◌==◌, ◌&&◌, Bool, true, false, List, 
 use Rattle.delta.specs.declared.Step.{Step}
 use Rattle.delta.specs.declared.Step.TheVariants.{Retain, Insert, Delete}
 use Rattle.session_ops.specs.declared.entry.Op.{Op}
-use Rattle.session_ops.specs.declared.entry.Op.TheVariants.{Join, Delta}
+use Rattle.session_ops.specs.declared.entry.Op.TheVariants.{Join, Delta, Queue}
 use Rattle.session_ops.specs.declared.entry.Call.{Call}
-use Rattle.session_ops.specs.declared.entry.Call.TheVariants.{Client}
+use Rattle.session_ops.specs.declared.entry.Call.TheVariants.{Client, Start, Respond}
 
 abbrev pub same_numbers : List ℕ → List ℕ → Bool
 same_numbers [] [] = true
@@ -30,8 +30,10 @@ same_steps (a ∷ xs) (b ∷ bs) = same_step a b && same_steps xs bs
 abbrev pub same_op : Op → Op → Bool
 same_op Join Join = true
 same_op (Delta cell base d) (Delta cell' base' d') = (cell == cell') && ((base == base') && same_steps d d')
+same_op (Queue cell) (Queue cell') = cell == cell'
 same_op a b = false
 
 -- the same client's same operation
 abbrev pub same_call : Call → Call → Bool
 same_call (Client n op) (Client n' op') = (n == n') && same_op op op'
+same_call a b = false

@@ -1,6 +1,7 @@
 //! Calls, replies and the entries of a history.
 use delta::Delta;
-use notebook::CellId;
+use ex_model::Shown;
+use notebook::{CellId, Lane};
 
 /// What a client asks of the session.
 #[derive(Debug, Drop)]
@@ -13,6 +14,8 @@ pub enum Op {
         base: u64,
         delta: Delta,
     },
+    /// To have a setup or code cell evaluated, and before it what it stands on.
+    Queue { cell: CellId },
 }
 
 /// One call of the session.
@@ -20,6 +23,10 @@ pub enum Op {
 pub enum Call {
     /// A client's.
     Client { client: u32, op: Op },
+    /// An evaluator's: to be handed the lane's first due cell.
+    Start { lane: Lane },
+    /// An evaluator's: the evaluation of that number is done and showed this.
+    Respond { eval: u64, shown: Shown },
 }
 
 /// Why a client's call is refused, in the order of the checks. A refused call changes nothing.
@@ -31,6 +38,8 @@ pub enum Refusal {
     AlreadyJoined,
     /// No live cell has the number.
     NoCell,
+    /// The cell is no code: a Markdown cell. The setup cell counts as code.
+    NotCode,
     /// The base is above the cell's present revision `now`.
     TooNew { now: u64 },
     /// The base is below the least revision `kept` that some joined client may still build on.
@@ -39,6 +48,8 @@ pub enum Refusal {
     PastEnd { len: u64 },
     /// The delta cuts the text inside the character at the UTF-16 units before and after `at`.
     SplitsPair { at: u64 },
+    /// The cell stands on `cell`, which is evaluated and shows a fault.
+    AncestorFailed { cell: CellId },
 }
 
 /// The session's answer to a call.
@@ -48,6 +59,12 @@ pub enum Reply {
     Accepted,
     /// The delta was applied, as `delta` says; the cell has now the revision `rev`.
     Applied { rev: u64, delta: Delta },
+    /// The evaluation of the number `eval` has begun, of the cell.
+    Started { eval: u64, cell: CellId },
+    /// What the evaluation showed is the cell's now.
+    Stored { eval: u64 },
+    /// The evaluation isn't the cell's running one any more; nothing was changed.
+    Late { eval: u64 },
     /// Nothing was changed.
     Refused(Refusal),
 }
