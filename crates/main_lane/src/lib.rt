@@ -1,0 +1,6 @@
+//! Stub.
+#![tactic(auto)]
+
+mod lane;
+
+pub use lane::{Evaluated, MainLane, Row};
