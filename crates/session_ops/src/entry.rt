@@ -15,7 +15,9 @@ pub enum Op {
         delta: Delta,
     },
     /// To have a setup or code cell evaluated, and before it what it stands on.
-    Queue { cell: CellId },
+    Queue {
+        cell: CellId,
+    },
 }
 
 /// One call of the session.
