@@ -1,3 +1,5 @@
 pub mod Growing
+pub mod Lists
 pub mod Sources
+pub mod Sweeps
 mod Worked
