@@ -1,5 +1,6 @@
 pub mod Growing
 pub mod Lists
+pub mod Shown
 pub mod Sources
 pub mod Sweeps
 mod Worked

@@ -1,5 +1,5 @@
 -- Lists by tests: what is found, what passes, and what is left.
-use Rattle.std.proofs.Common.{◌≡◌, ◌≢◌, ℕ, ◌==◌, Bool, true, false, not, if◌then◌else◌, List, [], ◌∷◌, ◌++◌, Option, Some, None, map, refl, sym, ap, ◌∙◌, arith}
+use Rattle.std.proofs.Common.{◌≡◌, ◌≢◌, ℕ, ◌==◌, Bool, true, false, not, if◌then◌else◌, List, [], ◌∷◌, ◌++◌, Option, Some, None, map, refl, sym, ap, subst, ◌∙◌, arith}
 use Rattle.std.specs.Prelude.{◌&&◌, ◌||◌, filter, find, is_some}
 use Rattle.std.specs.List.{list_any, list_all, AllByRecursion}
 use Rattle.std.proofs.lemmas.Bool.Decides.{nat_tests}
@@ -58,4 +58,50 @@ in-more n (x ∷ xs) ys e =
     elim (x == n)
     as (λ b. (if b then true else is_in n xs) ≡ true → (if b then true else is_in n (xs ++ ys)) ≡ true)
     [ true ↦ λ k. refl | false ↦ λ k. in-more n xs ys k ]
+    e
+
+-- where the front has none that passes, the whole finds what the rest finds
+pub find-append-none : {X : Type 0} (p : X → Bool) (xs ys : List X) → AllByRecursion (λ x. p x ≡ false) xs → find p (xs ++ ys) ≡ find p ys
+find-append-none p [] ys h = refl
+find-append-none p (x ∷ xs) ys h = rw h.0 (find-append-none p xs ys h.1)
+
+-- one more that doesn't pass is never found
+pub find-append-other : {X : Type 0} (p : X → Bool) (xs : List X) (y : X) → p y ≡ false → find p (xs ++ y ∷ []) ≡ find p xs
+find-append-other p [] y h = rw h refl
+find-append-other p (x ∷ xs) y h = ap (λ o. if p x then Some x else o) (find-append-other p xs y h)
+
+-- those that are left still have all that pass, or none of them
+pub find-kept : {X : Type 0} (p q : X → Bool) → ((x : X) → p x ≡ true → q x ≡ true) → (xs : List X) → find p (filter q xs) ≡ find p xs
+find-kept p q h [] = refl
+find-kept p q h (x ∷ xs) =
+    elim (q x)
+    as (λ c. (p x ≡ true → c ≡ true) → find p (if c then x ∷ filter q xs else filter q xs) ≡ (if p x then Some x else find p xs))
+    [ true ↦ λ k. ap (λ o. if p x then Some x else o) (find-kept p q h xs)
+    | false ↦ λ k. elim (p x) as (λ b. (b ≡ true → false ≡ true) → find p (filter q xs) ≡ (if b then Some x else find p xs)) [ true ↦ λ j. absurd (cc (j refl)) | false ↦ λ j. find-kept p q h xs ] k ]
+    (h x)
+
+pub find-lost : {X : Type 0} (p q : X → Bool) → ((x : X) → q x ≡ true → p x ≡ false) → (xs : List X) → find p (filter q xs) ≡ None
+find-lost p q h [] = refl
+find-lost p q h (x ∷ xs) =
+    elim (q x)
+    as (λ c. (c ≡ true → p x ≡ false) → find p (if c then x ∷ filter q xs else filter q xs) ≡ None)
+    [ true ↦ λ k. rw (k refl) (find-lost p q h xs) | false ↦ λ k. find-lost p q h xs ]
+    (h x)
+
+-- what is found passes, and is as all are
+pub find-passes : {X : Type 0} (p : X → Bool) (xs : List X) (y : X) → find p xs ≡ Some y → p y ≡ true
+find-passes p [] y e = absurd (cc e)
+find-passes p (x ∷ xs) y e =
+    elim (p x)
+    as (λ b. p x ≡ b → (if b then Some x else find p xs) ≡ Some y → p y ≡ true)
+    [ true ↦ λ t k. let same : x ≡ y = cc k in ap p (sym same) ∙ t | false ↦ λ t k. find-passes p xs y k ]
+    refl
+    e
+
+pub find-is : {X : Type 0} (p : X → Bool) (P : X → Type 0) (xs : List X) (y : X) → AllByRecursion P xs → find p xs ≡ Some y → P y
+find-is p P [] y h e = absurd (cc e)
+find-is p P (x ∷ xs) y h e =
+    elim (p x)
+    as (λ b. (if b then Some x else find p xs) ≡ Some y → P y)
+    [ true ↦ λ k. let same : x ≡ y = cc k in subst P same h.0 | false ↦ λ k. find-is p P xs y h.1 k ]
     e
