@@ -1,3 +1,4 @@
+pub mod Books
 pub mod Growing
 pub mod Lists
 pub mod Shown
