@@ -1,6 +1,6 @@
 -- New sources leave a notebook's cells, sections and lanes where they are.
-use Rattle.std.proofs.Common.{◌≡◌, ℕ, ◌==◌, Bool, true, false, if◌then◌else◌, List, [], ◌∷◌, ◌++◌, map, Option, Some, None, refl, sym, ap, subst, ◌∙◌}
-use Rattle.std.specs.Prelude.{filter, is_none}
+use Rattle.std.proofs.Common.{◌≡◌, ℕ, true, false, if◌then◌else◌, List, [], ◌∷◌, map, refl, sym, ap, subst, ◌∙◌}
+use Rattle.std.specs.Prelude.{filter}
 use Rattle.std.specs.List.{flat_map, AllByRecursion}
 use Rattle.std.proofs.lemmas.List.{map-append}
 use Rattle.notebook.specs.declared.parts.Cell.{Cell}
@@ -98,10 +98,11 @@ main-numbers : (f : Cell → List ℕ) (ss : List Section) → map cell_number (
 main-numbers f [] = refl
 main-numbers f (s ∷ ss) =
     elim (is_main s)
-    as (λ b. map cell_number (flat_map section_code (if b then record s { cells = resourced_cells f s.cells } ∷ filter is_main (resourced_sections f ss) else filter is_main (resourced_sections f ss))) ≡ map cell_number (flat_map section_code (if b then s ∷ filter is_main ss else filter is_main ss)))
-    [ true ↦ map-append cell_number (filter is_code (resourced_cells f s.cells)) (main_cells (resourced_sections f ss))
-      ∙ (rw (code-numbers f s.cells, main-numbers f ss) (sym (map-append cell_number (section_code s) (main_cells ss))))
-    | false ↦ main-numbers f ss ]
+    as (λ b. map cell_number (flat_map section_code (if b then record s { cells = resourced_cells f s.cells } ∷ filter is_main (resourced_sections f ss) else filter is_main (resourced_sections f ss))) ≡ map cell_number (flat_map section_code (if b then s ∷ filter is_main ss else filter is_main ss))) [
+      | true ↦ map-append cell_number (filter is_code (resourced_cells f s.cells)) (main_cells (resourced_sections f ss))
+          ∙ (rw (code-numbers f s.cells, main-numbers f ss) (sym (map-append cell_number (section_code s) (main_cells ss))))
+      | false ↦ main-numbers f ss
+    ]
 
 pub same-lane-numbers : (f : Cell → List ℕ) (n : Parts) → map cell_number (lane_cells (resourced f n) Main) ≡ map cell_number (lane_cells n Main)
 same-lane-numbers f n = ap (λ ns. n.setup.id ∷ ns) (main-numbers f n.sections)

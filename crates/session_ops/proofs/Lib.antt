@@ -2,6 +2,7 @@ pub mod Books
 pub mod Growing
 pub mod Lists
 pub mod Members
+pub mod Ready
 pub mod Shown
 pub mod Sources
 pub mod Sweeps

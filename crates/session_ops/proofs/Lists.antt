@@ -1,18 +1,18 @@
 -- Lists by tests: what is found, what passes, and what is left.
-use Rattle.std.proofs.Common.{◌≡◌, ◌≢◌, ℕ, ◌==◌, Bool, true, false, not, if◌then◌else◌, List, [], ◌∷◌, ◌++◌, Option, Some, None, map, refl, sym, ap, subst, ◌∙◌, arith}
-use Rattle.std.specs.Prelude.{◌&&◌, ◌||◌, filter, find, is_some}
-use Rattle.std.specs.List.{list_any, list_all, AllByRecursion}
-use Rattle.std.proofs.lemmas.Bool.Decides.{nat_tests}
-use Rattle.session_ops.specs.Work.{is_in, with_number, is_other, without_number}
+use Rattle.std.proofs.Common.{◌≡◌, ℕ, ◌==◌, Bool, true, false, if◌then◌else◌, List, [], ◌∷◌, ◌++◌, Some, None, refl, sym, ap, subst, ◌∙◌}
+use Rattle.std.specs.Prelude.{filter, find, is_some}
+use Rattle.std.specs.List.{AllByRecursion}
+use Rattle.session_ops.specs.Work.{is_in}
 
 -- what is_some's test of a list finds
 pub find-wider : {X : Type 0} (p q : X → Bool) → ((x : X) → p x ≡ true → q x ≡ true) → (xs : List X) → is_some (find p xs) ≡ true → is_some (find q xs) ≡ true
 find-wider p q h [] e = e
 find-wider p q h (x ∷ xs) e =
     elim (p x)
-    as (λ b. (b ≡ true → q x ≡ true) → is_some (if b then Some x else find p xs) ≡ true → is_some (if q x then Some x else find q xs) ≡ true)
-    [ true ↦ λ k f. rw (k refl) refl
-    | false ↦ λ k f. elim (q x) as (λ c. is_some (if c then Some x else find q xs) ≡ true) [ true ↦ refl | false ↦ find-wider p q h xs f ] ]
+    as (λ b. (b ≡ true → q x ≡ true) → is_some (if b then Some x else find p xs) ≡ true → is_some (if q x then Some x else find q xs) ≡ true) [
+      | true ↦ λ k f. rw (k refl) refl
+      | false ↦ λ k f. elim (q x) as (λ c. is_some (if c then Some x else find q xs) ≡ true) [ true ↦ refl | false ↦ find-wider p q h xs f ]
+    ]
     (h x)
     e
 
@@ -79,9 +79,10 @@ pub find-kept : {X : Type 0} (p q : X → Bool) → ((x : X) → p x ≡ true �
 find-kept p q h [] = refl
 find-kept p q h (x ∷ xs) =
     elim (q x)
-    as (λ c. (p x ≡ true → c ≡ true) → find p (if c then x ∷ filter q xs else filter q xs) ≡ (if p x then Some x else find p xs))
-    [ true ↦ λ k. ap (λ o. if p x then Some x else o) (find-kept p q h xs)
-    | false ↦ λ k. elim (p x) as (λ b. (b ≡ true → false ≡ true) → find p (filter q xs) ≡ (if b then Some x else find p xs)) [ true ↦ λ j. absurd (cc (j refl)) | false ↦ λ j. find-kept p q h xs ] k ]
+    as (λ c. (p x ≡ true → c ≡ true) → find p (if c then x ∷ filter q xs else filter q xs) ≡ (if p x then Some x else find p xs)) [
+      | true ↦ λ k. ap (λ o. if p x then Some x else o) (find-kept p q h xs)
+      | false ↦ λ k. elim (p x) as (λ b. (b ≡ true → false ≡ true) → find p (filter q xs) ≡ (if b then Some x else find p xs)) [ true ↦ λ j. absurd (cc (j refl)) | false ↦ λ j. find-kept p q h xs ] k
+    ]
     (h x)
 
 pub find-lost : {X : Type 0} (p q : X → Bool) → ((x : X) → q x ≡ true → p x ≡ false) → (xs : List X) → find p (filter q xs) ≡ None

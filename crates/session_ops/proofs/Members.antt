@@ -1,6 +1,6 @@
 -- Numbers that are in a list.
-use Rattle.std.proofs.Common.{◌≡◌, ℕ, ◌==◌, Bool, true, false, if◌then◌else◌, List, [], ◌∷◌, ◌++◌, map, Option, Some, None, refl, sym, ap, subst, ◌∙◌}
-use Rattle.std.specs.Prelude.{◌&&◌, ◌||◌, filter, find, is_some}
+use Rattle.std.proofs.Common.{◌≡◌, ℕ, ◌==◌, Bool, true, false, if◌then◌else◌, List, [], ◌∷◌, ◌++◌, map, Some, refl, ap, subst}
+use Rattle.std.specs.Prelude.{◌||◌, find, is_some}
 use Rattle.std.specs.List.{list_any, list_all, AllByRecursion}
 use Rattle.std.proofs.lemmas.Bool.{eqb-true, eq-eqb, and_from, or_left, or_right}
 use Rattle.notebook.specs.declared.parts.Cell.{Cell}
@@ -41,9 +41,10 @@ pub in-found : (p : ℕ → Bool) (ns : List ℕ) (n : ℕ) → is_in n ns ≡ t
 in-found p [] n e t = absurd (cc e)
 in-found p (m ∷ ns) n e t =
     elim (p m)
-    as (λ b. p m ≡ b → is_some (if b then Some m else find p ns) ≡ true)
-    [ true ↦ λ k. refl
-    | false ↦ λ k. by-first (λ j. p j ≡ true → is_some (find p ns) ≡ true) n m ns e (λ j. absurd (cc (j, k))) (λ i j. in-found p ns n i j) t ]
+    as (λ b. p m ≡ b → is_some (if b then Some m else find p ns) ≡ true) [
+      | true ↦ λ k. refl
+      | false ↦ λ k. by-first (λ j. p j ≡ true → is_some (find p ns) ≡ true) n m ns e (λ j. absurd (cc (j, k))) (λ i j. in-found p ns n i j) t
+    ]
     refl
 
 pub all-from : (p : ℕ → Bool) (ns : List ℕ) → ((n : ℕ) → is_in n ns ≡ true → p n ≡ true) → list_all p ns ≡ true
@@ -60,9 +61,10 @@ pub one-from-any : (p : ℕ → Bool) (ns : List ℕ) → list_any p ns ≡ true
 one-from-any p [] e = absurd (cc e)
 one-from-any p (m ∷ ns) e =
     elim (p m)
-    as (λ b. p m ≡ b → (b || list_any p ns) ≡ true → HasOne p (m ∷ ns))
-    [ true ↦ λ t k. record { one = m; within = in-here m ns; passes = t }
-    | false ↦ λ t k. let o : HasOne p ns = one-from-any p ns k in record { one = o.one; within = in-later o.one m ns o.within; passes = o.passes } ]
+    as (λ b. p m ≡ b → (b || list_any p ns) ≡ true → HasOne p (m ∷ ns)) [
+      | true ↦ λ t k. record { one = m; within = in-here m ns; passes = t }
+      | false ↦ λ t k. let o : HasOne p ns = one-from-any p ns k in record { one = o.one; within = in-later o.one m ns o.within; passes = o.passes }
+    ]
     refl
     e
 
@@ -88,27 +90,29 @@ first-more p c cs no_first f = record {
   passes = f.passes;
   within = in-later f.first c.id (map cell_number cs) f.within;
   others = λ m e.
-    elim (c.id == f.first)
-    as (λ b. (c.id == f.first) ≡ b → is_in m (map cell_number (if b then [] else c ∷ before (is_cell f.first) cs)) ≡ true → p m ≡ false)
-    [ true ↦ λ t k. absurd (cc k)
-    | false ↦ λ t k. by-first (λ j. p j ≡ false) m c.id (map cell_number (before (is_cell f.first) cs)) k no_first (λ j. f.others m j) ]
-    refl
-    e;
+      elim (c.id == f.first)
+      as (λ b. (c.id == f.first) ≡ b → is_in m (map cell_number (if b then [] else c ∷ before (is_cell f.first) cs)) ≡ true → p m ≡ false) [
+        | true ↦ λ t k. absurd (cc k)
+        | false ↦ λ t k. by-first (λ j. p j ≡ false) m c.id (map cell_number (before (is_cell f.first) cs)) k no_first (λ j. f.others m j)
+      ]
+      refl
+      e;
 }
 
 pub first-due : (p : ℕ → Bool) (cs : List Cell) (n : ℕ) → is_in n (map cell_number cs) ≡ true → p n ≡ true → IsFirst p cs
 first-due p [] n e t = absurd (cc e)
 first-due p (c ∷ cs) n e t =
     elim (p c.id)
-    as (λ b. p c.id ≡ b → IsFirst p (c ∷ cs))
-    [ true ↦ λ k. record {
+    as (λ b. p c.id ≡ b → IsFirst p (c ∷ cs)) [
+      | true ↦ λ k. record {
         first = c.id;
         found = rw k refl;
         passes = k;
         within = in-here c.id (map cell_number cs);
         others = λ m j. absurd (let none : is_in m (map cell_number (before (is_cell c.id) (c ∷ cs))) ≡ false = ap (λ b. is_in m (map cell_number (if b then [] else c ∷ before (is_cell c.id) cs))) {y = true} (eq-eqb c.id c.id refl) in cc (none, j));
       }
-    | false ↦ λ k. first-more p c cs k (first-due p cs n (by-first (λ j. p j ≡ true → is_in n (map cell_number cs) ≡ true) n c.id (map cell_number cs) e (λ j. absurd (cc (j, k))) (λ i j. i) t) t) ]
+      | false ↦ λ k. first-more p c cs k (first-due p cs n (by-first (λ j. p j ≡ true → is_in n (map cell_number cs) ≡ true) n c.id (map cell_number cs) e (λ j. absurd (cc (j, k))) (λ i j. i) t) t)
+    ]
     refl
 
 -- what stands before a cell of a flow stands before the flow's cell too
@@ -116,15 +120,17 @@ pub before-flow : (c q m : ℕ) (cs : List Cell) → list_any (is_cell c) (up_to
 before-flow c q m [] e k = absurd (cc e)
 before-flow c q m (x ∷ xs) e k =
     elim (x.id == c)
-    as (λ b. list_any (is_cell c) (if x.id == q then x ∷ [] else x ∷ up_to (is_cell q) xs) ≡ true → (x.id == c) ≡ b → is_in m (map cell_number (if b then [] else x ∷ before (is_cell c) xs)) ≡ true → is_in m (map cell_number (if x.id == q then [] else x ∷ before (is_cell q) xs)) ≡ true)
-    [ true ↦ λ i t j. absurd (cc j)
-    | false ↦ λ i t j.
-      elim (x.id == q)
-      as (λ a. list_any (is_cell c) (if a then x ∷ [] else x ∷ up_to (is_cell q) xs) ≡ true → is_in m (map cell_number (if a then [] else x ∷ before (is_cell q) xs)) ≡ true)
-      [ true ↦ λ h. absurd (let none : (x.id == c || false) ≡ false = rw t refl in cc (none, h))
-      | false ↦ λ h. let rest : list_any (is_cell c) (up_to (is_cell q) xs) ≡ true = subst (λ b. (b || list_any (is_cell c) (up_to (is_cell q) xs)) ≡ true) t h in
-        by-first (λ n. is_in n (x.id ∷ map cell_number (before (is_cell q) xs)) ≡ true) m x.id (map cell_number (before (is_cell c) xs)) j (in-here x.id _) (λ n. in-later m x.id _ (before-flow c q m xs rest n)) ]
-      i ]
+    as (λ b. list_any (is_cell c) (if x.id == q then x ∷ [] else x ∷ up_to (is_cell q) xs) ≡ true → (x.id == c) ≡ b → is_in m (map cell_number (if b then [] else x ∷ before (is_cell c) xs)) ≡ true → is_in m (map cell_number (if x.id == q then [] else x ∷ before (is_cell q) xs)) ≡ true) [
+      | true ↦ λ i t j. absurd (cc j)
+      | false ↦ λ i t j.
+          elim (x.id == q)
+          as (λ a. list_any (is_cell c) (if a then x ∷ [] else x ∷ up_to (is_cell q) xs) ≡ true → is_in m (map cell_number (if a then [] else x ∷ before (is_cell q) xs)) ≡ true) [
+            | true ↦ λ h. absurd (let none : (x.id == c || false) ≡ false = rw t refl in cc (none, h))
+            | false ↦ λ h. let rest : list_any (is_cell c) (up_to (is_cell q) xs) ≡ true = subst (λ b. (b || list_any (is_cell c) (up_to (is_cell q) xs)) ≡ true) t h in
+                by-first (λ n. is_in n (x.id ∷ map cell_number (before (is_cell q) xs)) ≡ true) m x.id (map cell_number (before (is_cell c) xs)) j (in-here x.id _) (λ n. in-later m x.id _ (before-flow c q m xs rest n))
+          ]
+          i
+    ]
     e
     refl
     k
@@ -134,13 +140,14 @@ pub in-flow : (q m : ℕ) (cs : List Cell) → is_in m (map cell_number (before 
 in-flow q m [] e = absurd (cc e)
 in-flow q m (x ∷ xs) e =
     elim (x.id == q)
-    as (λ b. is_in m (map cell_number (if b then [] else x ∷ before (is_cell q) xs)) ≡ true → list_any (is_cell m) (if b then x ∷ [] else x ∷ up_to (is_cell q) xs) ≡ true)
-    [ true ↦ λ k. absurd (cc k)
-    | false ↦ λ k.
-      elim (x.id == m)
-      as (λ a. (if a then true else is_in m (map cell_number (before (is_cell q) xs))) ≡ true → (a || list_any (is_cell m) (up_to (is_cell q) xs)) ≡ true)
-      [ true ↦ λ j. refl | false ↦ λ j. in-flow q m xs j ]
-      k ]
+    as (λ b. is_in m (map cell_number (if b then [] else x ∷ before (is_cell q) xs)) ≡ true → list_any (is_cell m) (if b then x ∷ [] else x ∷ up_to (is_cell q) xs) ≡ true) [
+      | true ↦ λ k. absurd (cc k)
+      | false ↦ λ k.
+          elim (x.id == m)
+          as (λ a. (if a then true else is_in m (map cell_number (before (is_cell q) xs))) ≡ true → (a || list_any (is_cell m) (up_to (is_cell q) xs)) ≡ true)
+          [ true ↦ λ j. refl | false ↦ λ j. in-flow q m xs j ]
+          k
+    ]
     e
 
 -- a cell of a lane stands in its own flow

@@ -1,9 +1,9 @@
 -- A cell that is evaluated shows what one thread gives along its present path.
-use Rattle.std.proofs.Common.{◌≡◌, ℕ, ◌+◌, ◌≤◌, ◌==◌, Bool, true, false, if◌then◌else◌, not, List, [], ◌∷◌, ◌++◌, Option, Some, None, refl, sym, ap, subst, ◌∙◌, arith}
-use Rattle.std.specs.Prelude.{◌&&◌, filter, find, nat_eq, unwrap_or}
+use Rattle.std.proofs.Common.{◌≡◌, ℕ, ◌+◌, ◌≤◌, ◌==◌, Bool, true, false, if◌then◌else◌, List, [], ◌∷◌, ◌++◌, Option, Some, None, refl, sym, ap, subst, ◌∙◌, arith}
+use Rattle.std.specs.Prelude.{filter, find, nat_eq, unwrap_or}
 use Rattle.std.specs.Option.{option_map}
 use Rattle.std.specs.List.{AllByRecursion}
-use Rattle.std.specs.Cmp.Lexicographic.{pointwise, pointwise_decides, bytes_decides}
+use Rattle.std.specs.Cmp.Lexicographic.{pointwise, bytes_decides}
 use Rattle.std.proofs.lemmas.Bool.{and_parts, eqb-true}
 use Rattle.std.proofs.lemmas.Bool.Decides.{nat_tests}
 use Rattle.ex_model.specs.declared.ran.Shown.{Shown}
@@ -16,11 +16,10 @@ use Rattle.session_ops.specs.declared.entry.Op.{Op}
 use Rattle.session_ops.specs.declared.entry.Op.TheVariants.{Join, Delta, Queue}
 use Rattle.session_ops.specs.declared.entry.Call.{Call}
 use Rattle.session_ops.specs.declared.entry.Call.TheVariants.{Client, Start, Respond}
-use Rattle.session_ops.specs.declared.entry.Refusal.{Refusal}
 use Rattle.session_ops.specs.declared.entry.Reply.{Reply}
-use Rattle.session_ops.specs.declared.entry.Reply.TheVariants.{Accepted, Applied, Started, Stored, Late, Refused}
+use Rattle.session_ops.specs.declared.entry.Reply.TheVariants.{Accepted, Applied, Started, Stored}
 use Rattle.session_ops.specs.declared.entry.Entry.{Entry}
-use Rattle.session_ops.specs.Work.{Work, Running, Finished, no_work, is_in, has_path, is_evaluated, last_finished, path_read, is_of_cell, is_eval, is_other_eval, running_eval, begun, stored, swept, may_start}
+use Rattle.session_ops.specs.Work.{Work, Running, Finished, is_in, has_path, is_evaluated, last_finished, path_read, is_of_cell, is_eval, is_other_eval, running_eval, begun, stored, swept, may_start}
 use Rattle.session_ops.specs.State.{State, Job, ShowsAlong, IsAnswer, MayCall, HasReplies, Legal, is_job, is_other_job, jobs, jobs_from, jobs_after, state, state_from, after, after_call, opening, reply, start_reply}
 use Rattle.session_ops.proofs.Lists.{all-append, all-kept, find-append-none, find-append-other, find-kept, find-lost, find-passes, find-is, all-weaker}
 
@@ -49,36 +48,38 @@ pub record IsFaithfulWork (w : Work) (js : List Job) : Type 0 where
 agree-more : (rs : List Running) (js : List Job) (top : ℕ) (x : Running) (y : Job) → Agree rs js → AllByRecursion (IsRunBelow top) rs → AllByRecursion (IsJobBelow top) js → x.eval ≡ top + 1 → y.eval ≡ top + 1 → y.path ≡ x.path → Agree (rs ++ x ∷ []) (js ++ y ∷ [])
 agree-more rs js top x y h low below ex ey same eval r j er ej =
     elim (top + 1 == eval)
-    as (λ b. (top + 1 == eval) ≡ b → j.path ≡ r.path)
-    [ true ↦ λ t.
-      let here : is_eval eval x ≡ true = rw ex t in
-      let there : is_job eval y ≡ true = rw ey t in
-      let no_run : AllByRecursion (λ r. is_eval eval r ≡ false) rs = all-weaker (IsRunBelow top) (λ r. is_eval eval r ≡ false) (λ r l. grind (arith, nat_tests, l, t)) rs low in
-      let no_job : AllByRecursion (λ j. is_job eval j ≡ false) js = all-weaker (IsJobBelow top) (λ j. is_job eval j ≡ false) (λ j l. grind (arith, nat_tests, l, t)) js below in
-      let one : find (is_eval eval) (x ∷ []) ≡ Some x = rw here refl in
-      let two : find (is_job eval) (y ∷ []) ≡ Some y = rw there refl in
-      let found : Some x ≡ Some r = sym (find-append-none (is_eval eval) rs (x ∷ []) no_run ∙ one) ∙ er in
-      let taken : Some y ≡ Some j = sym (find-append-none (is_job eval) js (y ∷ []) no_job ∙ two) ∙ ej in
-      let is_x : x ≡ r = cc found in
-      let is_y : y ≡ j = cc taken in
-      ap (λ (k : Job). k.path) (sym is_y) ∙ (same ∙ ap (λ (k : Running). k.path) is_x)
-    | false ↦ λ t.
-      let here : is_eval eval x ≡ false = rw ex t in
-      let there : is_job eval y ≡ false = rw ey t in
-      h eval r j (sym (find-append-other (is_eval eval) rs x here) ∙ er) (sym (find-append-other (is_job eval) js y there) ∙ ej) ]
+    as (λ b. (top + 1 == eval) ≡ b → j.path ≡ r.path) [
+      | true ↦ λ t.
+          let here : is_eval eval x ≡ true = rw ex t in
+          let there : is_job eval y ≡ true = rw ey t in
+          let no_run : AllByRecursion (λ r. is_eval eval r ≡ false) rs = all-weaker (IsRunBelow top) (λ r. is_eval eval r ≡ false) (λ r l. grind (arith, nat_tests, l, t)) rs low in
+          let no_job : AllByRecursion (λ j. is_job eval j ≡ false) js = all-weaker (IsJobBelow top) (λ j. is_job eval j ≡ false) (λ j l. grind (arith, nat_tests, l, t)) js below in
+          let one : find (is_eval eval) (x ∷ []) ≡ Some x = rw here refl in
+          let two : find (is_job eval) (y ∷ []) ≡ Some y = rw there refl in
+          let found : Some x ≡ Some r = sym (find-append-none (is_eval eval) rs (x ∷ []) no_run ∙ one) ∙ er in
+          let taken : Some y ≡ Some j = sym (find-append-none (is_job eval) js (y ∷ []) no_job ∙ two) ∙ ej in
+          let is_x : x ≡ r = cc found in
+          let is_y : y ≡ j = cc taken in
+          ap (λ (k : Job). k.path) (sym is_y) ∙ (same ∙ ap (λ (k : Running). k.path) is_x)
+      | false ↦ λ t.
+          let here : is_eval eval x ≡ false = rw ex t in
+          let there : is_job eval y ≡ false = rw ey t in
+          h eval r j (sym (find-append-other (is_eval eval) rs x here) ∙ er) (sym (find-append-other (is_job eval) js y there) ∙ ej)
+    ]
     refl
 
 -- without the jobs of a number, and without the evaluations of a number that it may be
 agree-less : (rs ss : List Running) (js : List Job) (gone : ℕ) → Agree rs js → ((eval : ℕ) → (gone == eval) ≡ false → find (is_eval eval) ss ≡ find (is_eval eval) rs) → Agree ss (filter (is_other_job gone) js)
 agree-less rs ss js gone h same eval r j er ej =
     elim (gone == eval)
-    as (λ b. (gone == eval) ≡ b → j.path ≡ r.path)
-    [ true ↦ λ t.
-      let none : find (is_job eval) (filter (is_other_job gone) js) ≡ None = find-lost (is_job eval) (is_other_job gone) (λ k e. grind (arith, nat_tests, t, e)) js in
-      absurd (cc (none, ej))
-    | false ↦ λ t.
-      let kept : find (is_job eval) (filter (is_other_job gone) js) ≡ find (is_job eval) js = find-kept (is_job eval) (is_other_job gone) (λ k e. grind (arith, nat_tests, t, e)) js in
-      h eval r j (sym (same eval t) ∙ er) (sym kept ∙ ej) ]
+    as (λ b. (gone == eval) ≡ b → j.path ≡ r.path) [
+      | true ↦ λ t.
+          let none : find (is_job eval) (filter (is_other_job gone) js) ≡ None = find-lost (is_job eval) (is_other_job gone) (λ k e. grind (arith, nat_tests, t, e)) js in
+          absurd (cc (none, ej))
+      | false ↦ λ t.
+          let kept : find (is_job eval) (filter (is_other_job gone) js) ≡ find (is_job eval) js = find-kept (is_job eval) (is_other_job gone) (λ k e. grind (arith, nat_tests, t, e)) js in
+          h eval r j (sym (same eval t) ∙ er) (sym kept ∙ ej)
+    ]
     refl
 
 -- an answer that may be given is what one thread gives along the path of its job

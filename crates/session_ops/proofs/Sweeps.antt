@@ -1,6 +1,6 @@
 -- What a sweep leaves.
-use Rattle.std.proofs.Common.{◌≡◌, ℕ, Bool, true, false, not, List, [], ◌∷◌, ◌++◌, Option, Some, None, refl, sym, ap, ◌∙◌}
-use Rattle.std.specs.Prelude.{◌&&◌, filter, find, is_some}
+use Rattle.std.proofs.Common.{◌≡◌, ℕ, Bool, true, false, List, ◌++◌, Option, Some, None, refl, ap, ◌∙◌}
+use Rattle.std.specs.Prelude.{filter}
 use Rattle.std.specs.Option.{option_map}
 use Rattle.std.specs.List.{AllByRecursion}
 use Rattle.std.proofs.lemmas.Bool.{and_parts, and_from, not-true, not_from_false}
@@ -8,7 +8,7 @@ use Rattle.std.proofs.lemmas.List.{append-nil}
 use Rattle.notebook.specs.declared.parts.Parts.{Parts}
 use Rattle.notebook.specs.Flow.{Passed, path}
 use Rattle.notebook.specs.Validity.{validity_by, is_evaluated_so}
-use Rattle.session_ops.specs.Work.{Work, Finished, is_in, is_evaluated, has_path, has_failed, last_finished, path_read, shows_fault, earlier, failed_ancestor, is_hopeless, is_hopeful, swept}
+use Rattle.session_ops.specs.Work.{Work, is_in, is_evaluated, has_path, has_failed, last_finished, path_read, shows_fault, earlier, is_hopeless, is_hopeful, swept}
 use Rattle.session_ops.proofs.Lists.{find-wider, all-filter, filter-all, filter-none, in-more, all-weaker}
 
 -- a cell has no ancestor that failed
@@ -40,9 +40,10 @@ hopeless-before n w cell e = find-wider (has_failed n (swept n w)) (has_failed n
 hope-stays : (n : Parts) (w : Work) (cell : ℕ) → is_hopeful n w cell ≡ true → HasHope n (swept n w) cell
 hope-stays n w cell e =
     elim (is_hopeless n (swept n w) cell)
-    as (λ b. (b ≡ true → is_hopeless n w cell ≡ true) → b ≡ false)
-    [ true ↦ λ k. absurd (let lost : is_hopeless n w cell ≡ true = k refl in let kept : is_hopeless n w cell ≡ false = not-true _ e in cc)
-    | false ↦ λ k. refl ]
+    as (λ b. (b ≡ true → is_hopeless n w cell ≡ true) → b ≡ false) [
+      | true ↦ λ k. absurd (let lost : is_hopeless n w cell ≡ true = k refl in let kept : is_hopeless n w cell ≡ false = not-true _ e in cc)
+      | false ↦ λ k. refl
+    ]
     (hopeless-before n w cell)
 
 -- no queued cell has an ancestor that failed after a sweep
