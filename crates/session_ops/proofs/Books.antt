@@ -9,14 +9,13 @@ use Rattle.notebook.specs.declared.parts.Parts.{Parts}
 use Rattle.notebook.specs.declared.states.Lane.TheVariants.{Main}
 use Rattle.notebook.specs.Book.{cells, cells_of, section_cells, resourced_cell, resourced_cells, resourced_sections, resourced}
 use Rattle.notebook.specs.Rules.{cell_number, AreDistinct, IsSectionCell}
-use Rattle.notebook.specs.Flow.{is_code, is_main, section_code, main_cells, lane_cells}
+use Rattle.notebook.specs.Flow.{is_code, is_main, section_code, main_cells, lane_cells, HasNoParent, IsUnbranched}
 use Rattle.session_ops.specs.declared.entry.Op.TheVariants.{Join, Delta, Queue}
 use Rattle.session_ops.specs.declared.entry.Call.{Call}
 use Rattle.session_ops.specs.declared.entry.Call.TheVariants.{Client, Start, Respond}
 use Rattle.session_ops.specs.declared.entry.Reply.{Reply}
 use Rattle.session_ops.specs.declared.entry.Reply.TheVariants.{Accepted, Applied, Started, Stored}
 use Rattle.session_ops.specs.declared.entry.Entry.{Entry}
-use Rattle.session_ops.specs.Work.{HasNoParent, IsUnbranched}
 use Rattle.session_ops.specs.State.{State, state, state_from, after, after_call, opening, moved_source}
 use Rattle.session_ops.proofs.Lists.{all-append, all-front, all-back}
 

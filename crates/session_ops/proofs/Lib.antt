@@ -1,5 +1,6 @@
 pub mod Books
 pub mod Growing
+pub mod Lanes
 pub mod Lists
 pub mod Members
 pub mod Ready

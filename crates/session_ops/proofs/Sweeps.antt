@@ -1,5 +1,5 @@
 -- What a sweep leaves.
-use Rattle.std.proofs.Common.{◌≡◌, ℕ, Bool, true, false, List, ◌++◌, Option, Some, None, refl, ap, ◌∙◌}
+use Rattle.std.proofs.Common.{◌≡◌, ℕ, Bool, true, false, List, ◌++◌, Option, Some, None, is_some, refl, ap, ◌∙◌}
 use Rattle.std.specs.Prelude.{filter}
 use Rattle.std.specs.Option.{option_map}
 use Rattle.std.specs.List.{AllByRecursion}
@@ -8,12 +8,22 @@ use Rattle.std.proofs.lemmas.List.{append-nil}
 use Rattle.notebook.specs.declared.parts.Parts.{Parts}
 use Rattle.notebook.specs.Flow.{Passed, path}
 use Rattle.notebook.specs.Validity.{validity_by, is_evaluated_so}
-use Rattle.session_ops.specs.Work.{Work, is_in, is_evaluated, has_path, has_failed, last_finished, path_read, shows_fault, earlier, is_hopeless, is_hopeful, swept}
+use Rattle.session_ops.specs.Work.{Work, is_in, is_evaluated, has_path, has_failed, last_finished, path_read, shows_fault, earlier, failed_ancestor, is_hopeless, is_hopeful, swept}
 use Rattle.session_ops.proofs.Lists.{find-wider, all-filter, filter-all, filter-none, in-more, all-weaker}
 
 -- a cell has no ancestor that failed
 abbrev pub HasHope : Parts → Work → ℕ → Type 0
 HasHope n w cell = is_hopeless n w cell ≡ false
+
+without-some : {X : Type 0} (o : Option X) → is_some o ≡ false → o ≡ None
+without-some None e = refl
+without-some (Some x) e = absurd (cc e)
+
+pub hope-none : (n : Parts) (w : Work) (cell : ℕ) → HasHope n w cell → failed_ancestor n w cell ≡ None
+hope-none n w cell h = without-some (failed_ancestor n w cell) h
+
+pub none-hope : (n : Parts) (w : Work) (cell : ℕ) → failed_ancestor n w cell ≡ None → HasHope n w cell
+none-hope n w cell h = ap is_some h
 
 unmarked : (before after : Bool) (read : Option (List Passed)) (present : List Passed) → (before ≡ true → after ≡ true) → is_evaluated_so (validity_by after read present) ≡ true → is_evaluated_so (validity_by before read present) ≡ true
 unmarked before true read present more e = absurd (cc e)

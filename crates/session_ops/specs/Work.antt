@@ -1,6 +1,6 @@
 -- What is asked of the evaluators, what runs, and what was shown.
-use Rattle.std.specs.Prelude.{◌≡◌, ℕ, ◌==◌, ◌&&◌, ◌||◌, not, Bool, true, false, if◌then◌else◌, List, [], ◌∷◌, ◌++◌, length, Option, Some, None, is_some, map, filter, find, option_map, option_and_then, unwrap_or}
-use Rattle.std.specs.List.{list_any, list_all, AllByRecursion}
+use Rattle.std.specs.Prelude.{ℕ, ◌==◌, ◌&&◌, ◌||◌, not, Bool, true, false, if◌then◌else◌, List, [], ◌∷◌, ◌++◌, length, Option, Some, None, is_some, map, filter, find, option_map, option_and_then, unwrap_or}
+use Rattle.std.specs.List.{list_any, list_all}
 use Rattle.ex_model.specs.declared.ran.Outcome.{Outcome}
 use Rattle.ex_model.specs.declared.ran.Outcome.TheVariants.{Value, Fault}
 use Rattle.ex_model.specs.declared.ran.Shown.{Shown}
@@ -179,13 +179,6 @@ is_hopeful n w cell = not (is_hopeless n w cell)
 -- all queued cells that have an ancestor that failed are taken out and marked aborted, in one step
 abbrev pub swept : Parts → Work → Work
 swept n w = record w { queued = filter (is_hopeful n w) w.queued; aborted = w.aborted ++ filter (is_hopeless n w) w.queued }
-
--- no section branches from another
-abbrev pub HasNoParent : Section → Type 0
-HasNoParent s = s.parent ≡ None
-
-abbrev pub IsUnbranched : Parts → Type 0
-IsUnbranched n = AllByRecursion HasNoParent n.sections
 
 -- nothing is queued and nothing runs
 abbrev pub is_idle : Work → Bool
