@@ -27,7 +27,7 @@ use Rattle.session_ops.specs.declared.entry.Reply.{Reply}
 use Rattle.session_ops.specs.declared.entry.Reply.TheVariants.{Accepted, Applied, Started, Stored, Late, Refused}
 use Rattle.session_ops.specs.declared.entry.Entry.{Entry}
 use Rattle.session_ops.specs.Work.{is_in, path_read, last_finished, may_start}
-use Rattle.session_ops.specs.State.{State, opening, after, reply}
+use Rattle.session_ops.specs.State.{State, opening, after, reply, state, jobs}
 
 abbrev written : ℕ → Kind → List ℕ → Cell
 written id kind source = record { id = id; kind = kind; source = source; before = []; saved = [] }
@@ -123,6 +123,23 @@ late = refl
 
 late-state : played pair (Respond 1 bad ∷ []) ≡ pair
 late-state = refl
+
+-- the jobs that are out: one between a start and its answer, with the path that was read
+abbrev history : State → List Call → List Entry
+history s [] = []
+history s (c ∷ cs) = answered s c ∷ history (after s (answered s c)) cs
+
+abbrev second_runs : List Call
+second_runs = Client 0 Join ∷ ask 1 ∷ Start Main ∷ Respond 1 good ∷ Start Main ∷ Client 0 (Delta 1 0 (step.Delete 5 ∷ [])) ∷ []
+
+job-out : jobs pair.book (history pair second_runs) ≡ record { eval = 2; by = 0; path = record { cell = 0; source = [] } ∷ record { cell = 1; source = codes "x = 2" } ∷ [] } ∷ []
+job-out = refl
+
+job-done : jobs pair.book (history pair (second_runs ++ Respond 2 good ∷ [])) ≡ []
+job-done = refl
+
+still-runs : (state pair.book (history pair second_runs)).work.running ≡ record { lane = Main; eval = 2; cell = 1; path = record { cell = 0; source = [] } ∷ record { cell = 1; source = codes "x = 2" } ∷ [] } ∷ []
+still-runs = refl
 
 -- a cell that fails, one after it in its section, and one in a branch of the section
 abbrev failing : State
