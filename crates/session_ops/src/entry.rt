@@ -18,7 +18,9 @@ pub enum Op {
         delta: Delta,
     },
     /// To have a setup or code cell evaluated, and before it what it stands on.
-    Queue { cell: CellId },
+    Queue {
+        cell: CellId,
+    },
 }
 
 impl Op {
