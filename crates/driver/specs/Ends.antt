@@ -23,6 +23,7 @@ pub record IsFresh (n0 : Parts) (p : Player) : Type 0 where
 -- the end settled, and left a mark
 pub record HasEnded (n0 : Parts) (old new : Player) : Type 0 where
   pub settled : HasSettled n0 1 old.session new.session
+  pub client : new.client ≡ old.client
   pub marks : new.marks ≡ old.marks ++ length new.session.history ∷ []
 
 -- and what it prints was written

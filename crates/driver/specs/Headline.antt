@@ -1,5 +1,5 @@
 -- What a run of a script says: it prints the transcript of one actual history.
-use Rattle.std.specs.Prelude.{◌≡◌, ℕ, ◌+◌, ◌<◌, ◌⊎◌, List, [], ◌∷◌, ◌++◌, length, map, Option, Some, None}
+use Rattle.std.specs.Prelude.{◌≡◌, ℕ, ◌+◌, ◌<◌, ◌⊎◌, true, List, [], ◌∷◌, ◌++◌, length, map, Option, Some, None}
 use Rattle.delta.specs.declared.Step.{Step}
 use Rattle.delta.specs.Moves.{text_after}
 use Rattle.notebook.specs.declared.parts.Cell.{Cell}

@@ -1,5 +1,7 @@
 -- Where the play of a script stands, and what a line makes of it.
 use Rattle.std.specs.Prelude.{◌≡◌, ◌≢◌, ℕ, codes, Bool, true, false, List, [], ◌∷◌, ◌++◌, length, map, Option, Some, None, ◌⊎◌}
+use Rattle.session_ops.specs.declared.entry.Call.TheVariants.{Client as ByClient}
+use Rattle.session_ops.specs.declared.entry.Reply.{Reply}
 use Rattle.session_ops.specs.declared.entry.Entry.{Entry}
 use Rattle.session_ops.specs.declared.entry.Op.{Op}
 use Rattle.session_ops.specs.State.{state, entries_by}
@@ -13,12 +15,12 @@ use Rattle.script.specs.declared.line.ScriptLine.TheVariants.{Join, Edit, Post, 
 use Rattle.script.specs.Play.{GoesOn, Begins}
 use Rattle.transcript.specs.Texts.{as_text}
 use Rattle.notebook.specs.declared.parts.Parts.{Parts}
-use Rattle.driver.specs.Lines.{edit_words, error_words}
+use Rattle.driver.specs.Lines.{edit_words, sent_words, error_words}
 use Rattle.driver.specs.Turns.{Turn, turns_from, AreMarks}
 use Rattle.driver.specs.Player.{Game, Stage, play_line, send}
 use Rattle.driver.specs.Headline.{AllOfRun, call_of}
-use Rattle.driver.specs.Session.{IsSession}
-use Rattle.driver.specs.Holder.{Mirrors, Carries, flights}
+use Rattle.driver.specs.Session.{IsSession, HasAnswered}
+use Rattle.driver.specs.Holder.{Mirrors, Carries, flights, confirmed_op}
 use Rattle.driver.specs.declared.session.Session.{Session}
 use Rattle.driver.specs.declared.client.Client.{Client}
 use Rattle.driver.specs.declared.player.Player.{Player}
@@ -93,6 +95,13 @@ HasEdited n0 h name cell d c c' m before after = IsEdited n0 h name cell d c c' 
 abbrev pub with_outbox : Client → List Op → Client
 with_outbox c ops = record c { outbox = ops }
 
+-- the answer to one message
+pub record HasAnsweredOne (n0 : Parts) (op : Op) (old new : Session) (c c' : Client) (name before after : List ℕ) : Type 0 where
+  pub reply : Reply
+  pub answered : HasAnswered n0 0 (ByClient c.number op) old new reply
+  pub client : c' ≡ confirmed_op op reply c
+  pub printed : after ≡ before ++ as_text (sent_words name reply ∷ [])
+
 -- the messages up to these that are left were sent: the turns that they used up, the stage after them, what was printed, and what came back
 pub record HasSent (g : Game) (marks : List ℕ) (ops left : List Op) (m : Holder) (s : Stage) (old new : Session) (c : Client) (before after : List ℕ) : Type 0 where
   pub sends : List Turn
@@ -102,7 +111,7 @@ pub record HasSent (g : Game) (marks : List ℕ) (ops left : List Op) (m : Holde
   pub clients : stage.clients ≡ record m { outbox = left } ∷ []
   pub asked : stage.asked ≡ map call_of (entries_by new.history 0)
   pub run : AllOfRun 0 new.history
-  pub marks : AreMarks 0 marks (length new.history)
+  pub ordered : AreMarks 0 marks (length new.history)
   pub session : IsSession g.opening new
   pub piece : List ℕ
   pub printed : after ≡ before ++ piece
@@ -115,11 +124,11 @@ pub record HasSent (g : Game) (marks : List ℕ) (ops left : List Op) (m : Holde
 
 -- a client with a session, before it sends anything
 pub record MaySend (g : Game) (marks : List ℕ) (m : Holder) (s : Stage) (session : Session) (c : Client) : Type 0 where
-  pub session : IsSession g.opening session
+  pub stands : IsSession g.opening session
   pub clients : s.clients ≡ m ∷ []
   pub asked : s.asked ≡ map call_of (entries_by session.history 0)
   pub run : AllOfRun 0 session.history
-  pub marks : AreMarks 0 marks (length session.history)
+  pub ordered : AreMarks 0 marks (length session.history)
   pub mirrors : Mirrors g.opening session.history c m
   pub first : c.number ≡ 0
 

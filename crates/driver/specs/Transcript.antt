@@ -27,7 +27,7 @@ finished n0 script h marks = or_none (stage_after n0 script script.lines h marks
 
 -- the end: the server's notebook, and the states of its cells
 abbrev pub end_lines : State → List (List ℕ)
-end_lines s = codes "end" ∷ (book_lines (revision s) s.book ++ status_lines s.book)
+end_lines s = codes "end" ∷ (book_lines (revision s) s.book ++ status_lines s.book s.work)
 
 -- all that is printed, where all turns are used up
 abbrev pub ending : Parts → List (List ℕ) → List Entry → Stage → List Turn → Option (List ℕ)

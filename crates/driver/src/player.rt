@@ -4,18 +4,16 @@ ghost use Rattle.notebook.specs.declared.parts.Parts.{Parts};
 ghost use Rattle.session_ops.specs.declared.entry.Entry.{Entry};
 ghost use Rattle.client_sync.specs.Client.{Client as Holder};
 ghost use Rattle.notebook.specs.Flow.{IsUnbranched};
-ghost use Rattle.session_ops.specs.declared.entry.Call.TheVariants.{Client as ByClient};
-ghost use Rattle.session_ops.specs.declared.entry.Reply.{Reply as ReplyValue};
 ghost use Rattle.session_ops.specs.State.{state};
 ghost use Rattle.script.specs.declared.line.ScriptLine.TheVariants.{Join, Edit, Post, Sync, Show, Settle, Cells};
 ghost use Rattle.transcript.specs.Texts.{as_text};
-ghost use Rattle.driver.specs.Lines.{posted_words, sent_words};
+ghost use Rattle.driver.specs.Lines.{posted_words};
 ghost use Rattle.std.specs.Str.{encode_utf8_all};
 ghost use Rattle.driver.specs.Player.{Game, Stage, name_of, or_no_name, op_of};
-ghost use Rattle.driver.specs.Session.{IsSession, HasAnswered, IsCurrent};
-ghost use Rattle.driver.specs.Holder.{Mirrors, flights, confirmed_op};
+ghost use Rattle.driver.specs.Session.{IsSession, IsCurrent};
+ghost use Rattle.driver.specs.Holder.{Mirrors, flights};
 ghost use Rattle.driver.specs.Playing.{IsReady};
-ghost use Rattle.driver.specs.Standing.{Stands, Waits, after_line, HasPlayed, HasEdited, MaySend, HasSent, HasExchanged, HasExchangedAny, with_outbox};
+ghost use Rattle.driver.specs.Standing.{Stands, Waits, after_line, HasPlayed, HasEdited, MaySend, HasAnsweredOne, HasSent, HasExchanged, HasExchangedAny, with_outbox};
 
 use crate::client::Client;
 use crate::lines::{
@@ -146,7 +144,7 @@ impl Player {
         out: &mut String,
     ) -> Result<(), AllocError>
         ensures played { (g : Game) → (s : Stage) → name.now ≡ name_of g client → Stands g self.old s → client ≡ 0 → OnOk result (HasPlayed g (Post client op) self.old self.new s (string_bytes out.old) (string_bytes out.new)) }
-        ensures waits { (edited : Bool) → Waits edited self.old.client → Waits edited self.new.client }
+        ensures waits { (edited : Bool) → Waits edited self.old.client → OnOk result (Waits edited self.new.client) }
     {
         match &mut self.client {
             None => push_no_client(out, name, "post")?,
@@ -158,7 +156,7 @@ impl Player {
     /// `settle`.
     pub(crate) fn settle<R: Wait>(&mut self, rt: &R, out: &mut String) -> Result<(), AllocError>
         ensures played { (g : Game) → (s : Stage) → Stands g self.old s → OnOk result (HasPlayed g Settle self.old self.new s (string_bytes out.old) (string_bytes out.new)) }
-        ensures client { self.new.client ≡ self.old.client }
+        ensures client { OnOk result (self.new.client ≡ self.old.client) }
     {
         self.session.settle(rt, 1)?;
         self.look()?;
@@ -169,7 +167,7 @@ impl Player {
     /// `cells`.
     pub(crate) fn cells(&mut self, alloc: Global, out: &mut String) -> Result<(), AllocError>
         ensures played { (g : Game) → (s : Stage) → Stands g self.old s → OnOk result (HasPlayed g Cells self.old self.new s (string_bytes out.old) (string_bytes out.new)) }
-        ensures client { self.new.client ≡ self.old.client }
+        ensures client { OnOk result (self.new.client ≡ self.old.client) }
     {
         self.look()?;
         push_statuses(out, alloc, self.session.book.parts(), &self.session.lane)?;
@@ -239,8 +237,7 @@ fn post_own(
     out: &mut String,
 ) -> Result<(), AllocError>
     ensures posted { OnOk result (own.new ≡ with_outbox own.old (own.old.outbox ++ op_of op ∷ [])) }
-    ensures flights { flights own.new.outbox ≡ flights own.old.outbox }
-    ensures printed { OnOk result (string_bytes out.new ≡ string_bytes out.old ++ as_text (posted_words name.now ∷ [])) }
+        ensures printed { OnOk result (string_bytes out.new ≡ string_bytes out.old ++ as_text (posted_words name.now ∷ [])) }
 {
     own.post(op_of(op))?;
     push_posted(out, name)?;
@@ -297,7 +294,7 @@ fn send_all(
     out: &mut String,
 ) -> Result<(), AllocError>
     ensures sent { (g : Game) (marks : List ℕ) (m : Holder) (s : Stage) → name.now ≡ name_of g 0 → own.old.outbox ≡ [] → MaySend g marks m s session.old (with_outbox own.old ops.now) → OnOk result (HasSent g marks ops.now [] m s session.old session.new own.new (string_bytes out.old) (string_bytes out.new)) }
-    ensures nothing { own.new.outbox ≡ own.old.outbox }
+    ensures nothing { OnOk result (own.new.outbox ≡ own.old.outbox) }
 {
     for op in ops {
         send(session, own, name, op, out)?;
@@ -313,7 +310,7 @@ fn send(
     op: &Op,
     out: &mut String,
 ) -> Result<(), AllocError>
-    ensures sent { (n0 : Parts) → IsSession n0 session.old → IsCurrent (state n0 session.old.history) op.now → OnOk result ((reply : ReplyValue) × (HasAnswered n0 0 (ByClient own.old.number op.now) session.old session.new reply × ((own.new ≡ confirmed_op op.now reply own.old) × (string_bytes out.new ≡ string_bytes out.old ++ as_text (sent_words name.now reply ∷ []))))) }
+    ensures sent { (n0 : Parts) → IsSession n0 session.old → IsCurrent (state n0 session.old.history) op.now → OnOk result (HasAnsweredOne n0 op.now session.old session.new own.old own.new name.now (string_bytes out.old) (string_bytes out.new)) }
     ensures nothing { own.new.outbox ≡ own.old.outbox }
 {
     let call = op.copy(session.alloc)?;

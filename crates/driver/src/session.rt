@@ -201,6 +201,7 @@ impl Session {
         ensures ok { (n0 : Parts) → IsSession n0 self.old → refused_by (reply (state n0 self.old.history) (Client client (QueueOp cell))) ≡ None → IfOk result (HasAnswered n0 by (Client client (QueueOp cell)) self.old self.new) }
         ensures err { OnErr result (self.new ≡ self.old) }
     {
+        let _kinds = self.book.parts();
         self.history.push(Entry {
             by,
             call: Call::Client {
@@ -219,11 +220,11 @@ impl Session {
     {
         for _ in rt.forever() {
             if self.lane.is_idle() {
-                break;
+                return Ok(());
             }
             self.evaluate(by)?;
         }
-        Ok(())
+        unreachable!()
     }
 
     /// Evaluates the cell that may be evaluated next, if there is one.

@@ -7,7 +7,7 @@ ghost use Rattle.main_lane.specs.Tracks.{Tracks};
 ghost use Rattle.transcript.specs.Texts.{as_text, ended_line};
 ghost use Rattle.driver.specs.Statuses.{HasPath, HasPathIfCode, AllHavePaths, AllSectionsHavePaths, cell_line, line_of_kind, code_lines, section_code_lines, setup_line, status_lines};
 
-use main_lane::MainLane;
+use main_lane::{MainLane, Row};
 use notebook::{Cell, CellId, Kind, Lane, Parts, Section};
 use std::alloc::{AllocError, Global};
 use transcript::push_state;
@@ -124,8 +124,12 @@ fn push_cell(
 {
     match lane.row(cell) {
         None => Ok(()),
-        Some(row) => {
-            push_state(out, alloc, cell, home, row.status, row.validity, row.shown)?;
+        Some(Row {
+            status,
+            validity,
+            shown,
+        }) => {
+            push_state(out, alloc, cell, home, status, validity, shown)?;
             Ok(())
         }
     }

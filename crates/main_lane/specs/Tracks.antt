@@ -20,12 +20,17 @@ use Rattle.main_lane.specs.declared.lane.Row.{Row}
 abbrev pub IsHopefulOne : Parts → Work → ℕ → Type 0
 IsHopefulOne n w cell = (lane_of n cell ≡ Some Main) × (failed_ancestor n w cell ≡ None)
 
+pub data Never : Type 0 where
+  never_more : Never → Never
+
 -- the lane stands for the work on a notebook without branches, where nothing runs and no queued cell is without hope
 pub record Tracks (n : Parts) (w : Work) (l : MainLane) : Type 0 where
   pub unbranched : IsUnbranched n
   pub distinct : AreDistinct (map cell_number (cells n))
   pub rests : w.running ≡ []
-  pub never : ⊥
+  pub hopeful : AllByRecursion (IsHopefulOne n w) w.queued
+  pub started : w.started ≡ 0
+  pub never : Never
 
 abbrev pub shown_in : Finished → Shown
 shown_in f = f.shown

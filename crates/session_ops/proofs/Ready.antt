@@ -33,7 +33,8 @@ section-code s cell Setup h e = absurd h
 section-code s cell Code h e = refl
 section-code s cell Markdown h e = absurd (cc e)
 
-found-wanted : (s : State) (cell : ℕ) → IsUnbranched s.book → HasSectionCells s.book → (o : Option Cell) → found cell (cells s.book) ≡ o → queue_reply s cell o ≡ Accepted → IsWanted s.book cell
+-- a cell that is found and may be queued stands in the main lane
+pub found-wanted : (s : State) (cell : ℕ) → IsUnbranched s.book → HasSectionCells s.book → (o : Option Cell) → found cell (cells s.book) ≡ o → queue_reply s cell o ≡ Accepted → IsWanted s.book cell
 found-wanted s cell h k None f e = absurd (cc e)
 found-wanted s cell h k (Some c) f e =
     elim (s.book.setup.id == cell)
