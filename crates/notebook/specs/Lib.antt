@@ -1,3 +1,5 @@
 pub mod Book
+pub mod Flow
 pub mod Places
 pub mod Rules
+pub mod Seen

@@ -1,0 +1,36 @@
+//! Where a cell is evaluated, and what is known of its evaluation.
+use crate::parts::SectionId;
+
+/// Cells of one lane are evaluated one after the other; lanes don't wait for one another but where a
+/// branch begins.
+#[derive(Clone, Copy, Debug, PartialEq, Eq)]
+pub enum Lane {
+    /// The setup cell and the code cells of the sections that branch from none.
+    Main,
+    /// The code cells of the section, which branches from another.
+    Branch(SectionId),
+}
+
+/// What is asked for a cell.
+#[derive(Clone, Copy, Debug, PartialEq, Eq)]
+pub enum Status {
+    /// Nothing.
+    Ready,
+    /// To be evaluated.
+    Queued,
+    /// It is being evaluated.
+    Evaluating,
+}
+
+/// What a cell's last evaluation is worth.
+#[derive(Clone, Copy, Debug, PartialEq, Eq)]
+pub enum Validity {
+    /// No evaluation has finished.
+    Fresh,
+    /// The last one to finish read the path that the cell has now.
+    Evaluated,
+    /// The last one to finish read another path.
+    Stale,
+    /// The last attempt was broken off.
+    Aborted,
+}
