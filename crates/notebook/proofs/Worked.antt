@@ -21,11 +21,11 @@ section id parent cells = record { id = id; name = []; before = []; parent = par
 abbrev book : Parts
 book = record untitled {
   sections = section 1 None (cell 1 Code (codes "a = 1") ∷ cell 2 Markdown (codes "text") ∷ cell 3 Code (codes "b = 2") ∷ [])
-    ∷ section 2 (Some 1) (cell 4 Code [] ∷ cell 5 Code [] ∷ [])
-    ∷ section 3 None (cell 6 Code [] ∷ [])
-    ∷ section 4 (Some 1) (cell 7 Code [] ∷ [])
-    ∷ section 5 (Some 3) (cell 8 Markdown [] ∷ cell 9 Code [] ∷ [])
-    ∷ [];
+      ∷ section 2 (Some 1) (cell 4 Code [] ∷ cell 5 Code [] ∷ [])
+      ∷ section 3 None (cell 6 Code [] ∷ [])
+      ∷ section 4 (Some 1) (cell 7 Code [] ∷ [])
+      ∷ section 5 (Some 3) (cell 8 Markdown [] ∷ cell 9 Code [] ∷ [])
+      ∷ [];
   next_cell = 10;
   next_section = 6;
 }

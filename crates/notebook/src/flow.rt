@@ -1,10 +1,11 @@
 //! The lanes of evaluation, and the cells that come before a cell in its lane.
-ghost use Rattle.std.specs.Prelude.{◌≡◌, ◌++◌, ◌∷◌, IfOk, OnOk, find};
+ghost use Rattle.std.specs.Prelude.{◌≡◌, ◌++◌, ◌∷◌, IfOk, OnOk, find, map};
 ghost use Rattle.std.specs.Option.{option_copied, option_map};
-ghost use Rattle.notebook.specs.Flow.{branch_cells, code_cells, has_code, is_cell, is_section, lane_cells, main_cells, section_lane, up_to};
+ghost use Rattle.notebook.specs.Flow.{branch_cells, code_cells, has_code, is_cell, is_section, main_cells, section_lane, up_to};
 ghost use Rattle.notebook.specs.Seen.{seen};
+ghost use Rattle.notebook.specs.Rules.{cell_number};
 
-use crate::parts::{Cell, CellId, Parts, Section, SectionId};
+use crate::parts::{Cell, CellId, Section, SectionId};
 use crate::states::Lane;
 use std::alloc::{AllocError, Global};
 
@@ -61,7 +62,7 @@ fn push_code<'a>(lane: &mut Vec<&'a Cell>, cells: &'a [Cell]) -> Result<(), Allo
 }
 
 /// Puts the code cells of the sections that branch from none at the end.
-fn push_main<'a>(lane: &mut Vec<&'a Cell>, sections: &'a [Section]) -> Result<(), AllocError>
+pub fn push_main<'a>(lane: &mut Vec<&'a Cell>, sections: &'a [Section]) -> Result<(), AllocError>
     ensures { OnOk result (seen lane.new.items ≡ seen lane.old.items ++ main_cells sections.now) }
 {
     for section in sections {
@@ -70,4 +71,35 @@ fn push_main<'a>(lane: &mut Vec<&'a Cell>, sections: &'a [Section]) -> Result<()
         }
     }
     Ok(())
+}
+
+/// Puts what stands before a branch at the end, and then the branch's own code cells.
+pub fn push_branch<'a>(
+    lane: &mut Vec<&'a Cell>,
+    sections: &'a [Section],
+    branch: SectionId,
+) -> Result<(), AllocError>
+    ensures { OnOk result (seen lane.new.items ≡ seen lane.old.items ++ branch_cells sections.now (find (is_section branch) sections.now)) }
+{
+    let Some(branch) = section_of(sections, branch) else {
+        return Ok(());
+    };
+    if let Some(parent) = branch.parent {
+        push_main(lane, sections_up_to(sections, parent))?;
+    }
+    push_code(lane, branch.cells.as_slice())
+}
+
+/// The numbers of the cells up to and with the first that has the number; of all where none has.
+pub fn numbers_up_to(alloc: Global, cells: &[&Cell], id: CellId) -> Result<Vec<CellId>, AllocError>
+    ensures { IfOk result (λ ids. ids.items ≡ map cell_number (up_to (is_cell id) (seen cells.now))) }
+{
+    let mut ids = Vec::new(alloc);
+    for cell in cells {
+        ids.push(cell.id)?;
+        if cell.id == id {
+            return Ok(ids);
+        }
+    }
+    Ok(ids)
 }

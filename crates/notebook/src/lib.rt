@@ -12,4 +12,4 @@ mod states;
 
 pub use book::Notebook;
 pub use parts::{Cell, CellId, Kind, Parts, Saved, Section, SectionId};
-pub use states::{Lane, Status, Validity};
+pub use states::{Lane, PathError, Status, Validity};
