@@ -146,7 +146,7 @@ text_ends_at done new last source blanks s b line after es eb e more h = record 
       ∙ (ap (λ is. items is 0 (kinded None line ∷ rest)) more
       ∙ (sym (text_ends done source blanks (kinded None line) rest e)
       ∙ ap (λ t. items (done ++ Markdown t ∷ []) (length (front_of is_part (kinded None line ∷ rest))) (kinded None line ∷ rest))
-          (sym (rw (es, eb) refl))));
+      (sym (rw (es, eb) refl))));
 }
 
 -- Markdown text with one line more
@@ -166,13 +166,16 @@ text_step : (done : List Item) (s b : _) (line : List ℕ) (k : Kind) (held fenc
 text_step done s b line k held fence open_in.Nothing may h = absurd h
 text_step done s b line k held fence open_in.Blank may h = absurd h
 text_step done s b line k held fence (open_in.Code f source) may h = absurd h
-text_step done s b line k held fence (open_in.Text longer waiting now) may h = (h.1.1, λ rest.
-    let part : List Line = front_of is_part rest in
-    let l : Line = record { kind = k; text = line } in
-    let same : string_bytes longer ++ added (string_bytes waiting) part ≡ string_bytes s ++ added (string_bytes b) (l ∷ part) =
-    ap (λ w. w ++ added (string_bytes waiting) part) h.0 ∙ (ap (λ w. cond (is_blank line) (string_bytes s) (string_bytes s ++ (string_bytes b ++ 10 ∷ line)) ++ added w part) h.1.0 ∙ more_text (is_blank line) (string_bytes s) (string_bytes b) line (drop_end is_blank (map text_of part))) in
-    ap (λ t. items (done ++ Markdown t ∷ []) (length part) rest) same
-    ∙ sym (ap (λ (c : Bool). items (done ++ Markdown (string_bytes s ++ added (string_bytes b) (cond c (l ∷ part) [])) ∷ []) (length (cond c (l ∷ part) [])) (l ∷ rest)) may))
+text_step done s b line k held fence (open_in.Text longer waiting now) may h = (
+  h.1.1,
+  λ rest.
+      let part : List Line = front_of is_part rest in
+      let l : Line = record { kind = k; text = line } in
+      let same : string_bytes longer ++ added (string_bytes waiting) part ≡ string_bytes s ++ added (string_bytes b) (l ∷ part) =
+      ap (λ w. w ++ added (string_bytes waiting) part) h.0 ∙ (ap (λ w. cond (is_blank line) (string_bytes s) (string_bytes s ++ (string_bytes b ++ 10 ∷ line)) ++ added w part) h.1.0 ∙ more_text (is_blank line) (string_bytes s) (string_bytes b) line (drop_end is_blank (map text_of part))) in
+      ap (λ t. items (done ++ Markdown t ∷ []) (length part) rest) same
+      ∙ sym (ap (λ (c : Bool). items (done ++ Markdown (string_bytes s ++ added (string_bytes b) (cond c (l ∷ part) [])) ∷ []) (length (cond c (l ∷ part) [])) (l ∷ rest)) may),
+)
 
 pub text_goes_on : (done : List Item) (s b : _) (line : List ℕ) (fence : Option Fence) (after : Open) → may_stand (kind_of line) ≡ true → opened (kind_of line) ≡ fence → IsTextWith (string_bytes s) (string_bytes b) line fence after → Takes done (open_in.Text s b None) done after line
 text_goes_on done s b line fence after may o h =

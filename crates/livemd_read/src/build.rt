@@ -43,12 +43,7 @@ fn need_section(alloc: Global, parts: &mut Parts) -> Result<(), AllocError>
 }
 
 /// Puts a cell with the next number at the end of the last section.
-fn push_cell(
-    alloc: Global,
-    parts: &mut Parts,
-    kind: Kind,
-    source: &str,
-) -> Result<(), AllocError>
+fn push_cell(alloc: Global, parts: &mut Parts, kind: Kind, source: &str) -> Result<(), AllocError>
     requires section { 0 < length parts.old.sections }
     requires number { parts.old.next_cell < 2 ^ 63 }
     ensures ok { OnOk result (parts.new ≡ with_cell kind (chars source.now) parts.old) }

@@ -229,11 +229,7 @@ fn code_cell<'a>(is_setup: bool, source: String) -> Item<'a>
 }
 
 /// Puts a code cell at the end of the items.
-fn push_code(
-    alloc: Global,
-    done: &mut Vec<Item>,
-    source: Option<String>,
-) -> Result<(), AllocError>
+fn push_code(alloc: Global, done: &mut Vec<Item>, source: Option<String>) -> Result<(), AllocError>
     ensures ok { OnOk result (views done.new.items ≡ views done.old.items ++ code_item (views done.old.items) (unwrap_or (option_map string_bytes source) []) ∷ []) }
 {
     let source = source.unwrap_or(String::new(alloc));

@@ -13,5 +13,5 @@ pub returns : goal.returns
 returns c =
     let with : (after : Open) → IsTextWith (string_bytes c.args.source) (string_bytes c.args.blanks) c.args.line.now c.fence_after.result after → (done : List Item) → Takes done (Text c.args.source c.args.blanks (Some c.args.fence)) done after c.args.line.now =
     λ after h done. inside_goes_on done c.args.source c.args.blanks c.args.line.now c.args.fence after
-        (subst (λ (f : Option Fence). IsTextWith (string_bytes c.args.source) (string_bytes c.args.blanks) c.args.line.now f after) c.fence_after.ensures h) in
+    (subst (λ (f : Option Fence). IsTextWith (string_bytes c.args.source) (string_bytes c.args.blanks) c.args.line.now f after) c.fence_after.ensures h) in
     IfOk-weaker _ _ _ with c.push_text.ensures
