@@ -1,7 +1,7 @@
 -- The notebook that items give: how it grows, and that it keeps the rules.
-use Rattle.std.proofs.Common.{◌≡◌, ℕ, ◌+◌, ◌-◌, ◌<◌, ◌≤◌, max, zero, suc, Bool, true, false, cond, List, [], ◌∷◌, ◌++◌, Option, None, Some, length, take, get_or, set, map, refl, sym, ap, ◌∙◌, arith, subst, append_assoc, length-append, codes}
-use Rattle.std.specs.Prelude.{slice_get, slice_set, Contains}
-use Rattle.std.specs.List.{fold, flat_map, AllByRecursion}
+use Rattle.std.proofs.Common.{◌≡◌, ℕ, ◌+◌, ◌-◌, ◌<◌, max, suc, Bool, true, false, cond, List, [], ◌∷◌, ◌++◌, Some, length, take, get_or, set, refl, sym, ap, ◌∙◌, arith, append_assoc, length-append, codes}
+use Rattle.std.specs.Prelude.{slice_get, slice_set}
+use Rattle.std.specs.List.{fold, flat_map}
 use Rattle.std.specs.Str.{chars}
 use Rattle.std.proofs.lemmas.Grind.{flat_map-append}
 use Rattle.std.proofs.lemmas.List.{append-nil, map-append, take_more}
@@ -12,13 +12,12 @@ use Rattle.notebook.specs.declared.parts.Section.{Section}
 use Rattle.notebook.specs.declared.parts.Parts.{Parts}
 use Rattle.notebook.specs.declared.parts.Kind.{Kind}
 use Rattle.notebook.specs.declared.parts.Kind.TheVariants as cell
-use Rattle.notebook.specs.Book.{cells_of, section_cells, untitled, empty_setup}
-use Rattle.notebook.specs.Rules.{IsNotebook, cell_number, section_number, AreDistinct, IsSectionKind, IsSectionCell, IsBelow, IsParentAmong, ParentsStand, code_count, code_weight, numbered_cells}
+use Rattle.notebook.specs.Book.{cells_of, section_cells, untitled}
+use Rattle.notebook.specs.Rules.{code_count}
 use Rattle.livemd_read.specs.declared.items.Item.{Item}
 use Rattle.livemd_read.specs.Lines.{is_empty}
 use Rattle.livemd_read.specs.Items as item
 use Rattle.livemd_read.specs.Book.{with_section, with_some_section, with_last_cell, with_cell, with_item, book_of}
-use Rattle.livemd_read.specs.Reads.{HasFewSections, HasFewCells}
 use Rattle.livemd_read.specs.Resume.{item_of, views}
 
 -- one item more

@@ -1,5 +1,5 @@
 -- The loop over the lines of a text.
-use Rattle.std.proofs.Common.{◌≡◌, ℕ, ◌+◌, ◌-◌, ◌<◌, ◌≤◌, Bool, true, false, cond, List, [], ◌∷◌, ◌++◌, length, take, get_or, map, refl, sym, ap, ◌∙◌, arith, suc, zero, append_assoc, Option}
+use Rattle.std.proofs.Common.{◌≡◌, ℕ, ◌+◌, ◌-◌, ◌<◌, Bool, true, false, cond, List, [], ◌∷◌, ◌++◌, length, take, get_or, map, refl, sym, ap, ◌∙◌, arith, suc, append_assoc, Option}
 use Rattle.std.specs.Borrow.{Bor}
 use Rattle.std.specs.Prelude.{◌==◌, slice_index}
 use Rattle.std.specs.List.{slice_split}
@@ -8,7 +8,7 @@ use Rattle.std.proofs.lemmas.Bool.Decides.{nat_tests}
 use Rattle.std.proofs.lemmas.List.{append-nil, take_more, take_all}
 use Rattle.livemd_read.specs.declared.items.Open.{Open}
 use Rattle.livemd_read.specs.declared.items.Open.TheVariants.{Nothing}
-use Rattle.livemd_read.specs.Lines.{is_empty, drop_end, is_cr, is_lf, without_empty_last, lines}
+use Rattle.livemd_read.specs.Lines.{drop_end, is_cr, is_lf, without_empty_last, lines}
 use Rattle.livemd_read.specs.declared.fences.Fence.{Fence}
 use Rattle.livemd_read.specs.Kinds.{kinds_of, kinds_in, fence_after}
 use Rattle.livemd_read.specs.Items.{Item}

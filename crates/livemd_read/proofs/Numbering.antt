@@ -1,8 +1,8 @@
 -- The notebook of items: sections and cells are numbered from 1 in their order, and it keeps the rules.
-use Rattle.std.proofs.Common.{◌≡◌, ℕ, ◌+◌, ◌<◌, ◌≤◌, max, zero, suc, Bool, true, false, cond, List, [], ◌∷◌, ◌++◌, Option, None, Some, length, get_or, map, refl, sym, ap, ◌∙◌, arith, subst, codes, length-append}
+use Rattle.std.proofs.Common.{◌≡◌, ℕ, ◌+◌, ◌<◌, ◌≤◌, zero, suc, true, false, cond, List, [], ◌∷◌, ◌++◌, Option, None, length, map, refl, sym, ap, ◌∙◌, arith, subst, codes, length-append}
 use Rattle.std.specs.Prelude.{Contains}
 use Rattle.std.specs.Str.{chars}
-use Rattle.std.specs.List.{fold, flat_map, AllByRecursion}
+use Rattle.std.specs.List.{fold, AllByRecursion}
 use Rattle.std.proofs.lemmas.List.{append-nil, map-append}
 use Rattle.std.proofs.lemmas.Grind.{flat_map-append}
 use Rattle.std.proofs.lemmas.List.Sums.{fold-append}
@@ -11,9 +11,9 @@ use Rattle.notebook.specs.declared.parts.Section.{Section}
 use Rattle.notebook.specs.declared.parts.Parts.{Parts}
 use Rattle.notebook.specs.declared.parts.Kind.{Kind}
 use Rattle.notebook.specs.declared.parts.Kind.TheVariants as cell
-use Rattle.notebook.specs.Book.{cells_of, section_cells, untitled, empty_setup}
+use Rattle.notebook.specs.Book.{cells_of, section_cells, untitled}
 use Rattle.notebook.specs.Flow.{HasNoParent, IsUnbranched}
-use Rattle.notebook.specs.Rules.{IsNotebook, cell_number, section_number, AreDistinct, IsSectionKind, IsSectionCell, IsBelow, IsParentAmong, ParentsStand, numbered_cells, code_count, code_weight}
+use Rattle.notebook.specs.Rules.{IsNotebook, cell_number, section_number, AreDistinct, IsSectionKind, IsSectionCell, IsBelow, IsParentAmong, ParentsStand, numbered_cells}
 use Rattle.livemd_read.specs.Lines.{is_empty}
 use Rattle.livemd_read.specs.Items as item
 use Rattle.livemd_read.specs.Book.{with_section, with_some_section, with_last_cell, with_cell, with_item, book_of, notices_of}

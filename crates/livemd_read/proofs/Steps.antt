@@ -1,5 +1,5 @@
 -- One line taken, in the definitions' terms.
-use Rattle.std.proofs.Common.{◌≡◌, ℕ, zero, suc, ◌+◌, Bool, true, false, not, ◌&&◌, ◌||◌, cond, List, [], ◌∷◌, ◌++◌, Option, Some, None, length, map, refl, sym, ap, ◌∙◌, append_assoc, unwrap_or, arith}
+use Rattle.std.proofs.Common.{◌≡◌, ℕ, suc, Bool, true, false, ◌&&◌, ◌||◌, cond, List, [], ◌∷◌, ◌++◌, Option, Some, None, length, map, refl, sym, ap, ◌∙◌, append_assoc, unwrap_or, arith}
 use Rattle.std.specs.Prelude.{◌==◌}
 use Rattle.std.specs.List.{flat_map}
 use Rattle.std.specs.Option.{option_map}
@@ -9,9 +9,9 @@ use Rattle.std.proofs.lemmas.Bool.Decides.{nat_tests}
 use Rattle.livemd_read.specs.declared.fences.Fence.{Fence}
 use Rattle.livemd_read.specs.declared.items.Open.{Open}
 use Rattle.livemd_read.specs.declared.items.Open.TheVariants as open_in
-use Rattle.livemd_read.specs.Lines.{is_empty, drop_end, drop_front, front_of, is_blank, is_space_or_tab, joined}
-use Rattle.livemd_read.specs.Kinds.{Kind, Opens, Inside, Closes, Heading1, Heading2, Plain, Line, kinded, kind_of, opened, is_code, is_closing, fence_after, kind_in}
-use Rattle.livemd_read.specs.Items.{Item, Cut, Name, Section, Markdown, Blank, at_name, is_part, is_blank_line, is_inside, is_inside_kind, is_closing_kind, may_stand, text_of, heading, one_line, blank_stretch, markdown, code, code_item, code_lines, closing_lines, cut, cut_by, items}
+use Rattle.livemd_read.specs.Lines.{is_empty, drop_end, front_of, is_blank, is_space_or_tab, joined}
+use Rattle.livemd_read.specs.Kinds.{Kind, Opens, Inside, Closes, Heading1, Heading2, Plain, Line, kinded, kind_of, opened, is_closing, fence_after, kind_in}
+use Rattle.livemd_read.specs.Items.{Item, Cut, Name, Section, Markdown, Blank, at_name, is_part, is_blank_line, is_inside, may_stand, text_of, heading, one_line, blank_stretch, markdown, code, code_item, code_lines, cut, cut_by, items}
 use Rattle.livemd_read.specs.Seen.{OpensCode, OpensOther}
 use Rattle.livemd_read.specs.Resume.{behind_feed, added_by, added, source_with, source_after, resume, fence_in, IsTextOf, IsTextWith, Takes}
 

@@ -1,11 +1,11 @@
 -- The search for the first line of a form that isn't built.
-use Rattle.std.proofs.Common.{◌≡◌, ℕ, ◌+◌, suc, Bool, true, false, cond, List, [], ◌∷◌, ◌++◌, ◌<◌, Option, Some, None, length, take, drop, get_or, append_assoc, add-one, drop-cons, map, refl, sym, ap, ◌∙◌, arith, subst}
+use Rattle.std.proofs.Common.{◌≡◌, ℕ, ◌+◌, suc, Bool, true, false, cond, List, [], ◌∷◌, ◌++◌, ◌<◌, Option, Some, None, length, take, drop, get_or, append_assoc, add-one, drop-cons, map, sym, ap, ◌∙◌, arith}
 use Rattle.std.specs.Borrow.{Bor}
 use Rattle.std.specs.Str.Lines as str
 use Rattle.std.proofs.lemmas.List.{take-append-drop}
 use Rattle.livemd_read.specs.declared.fences.Fence.{Fence}
 use Rattle.livemd_read.specs.Lines.{drop_end, is_cr, lines}
-use Rattle.livemd_read.specs.Kinds.{Line, kinded, kinds_in, kinds_of, fence_after, is_unbuilt, first_unbuilt}
+use Rattle.livemd_read.specs.Kinds.{kinded, kinds_in, kinds_of, fence_after, is_unbuilt, first_unbuilt}
 use Rattle.livemd_read.proofs.Loop.{texts, texts-push, std_lines, rest_turn}
 
 -- what a search that stands between two lines would still find

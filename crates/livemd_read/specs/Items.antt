@@ -1,7 +1,6 @@
 -- The items of a book: one after the other is cut from the front of its lines.
 use Rattle.std.specs.Prelude.{ℕ, zero, suc, ◌+◌, not, Bool, true, false, if◌then◌else◌, List, [], ◌∷◌, ◌++◌, length, map, drop}
 use Rattle.std.specs.List.{list_all}
-use Rattle.livemd_read.specs.declared.fences.Fence.{Fence}
 use Rattle.livemd_read.specs.Lines.{drop_end, drop_front, front_of, is_blank, is_space, joined}
 use Rattle.livemd_read.specs.Kinds.{Kind, Opens, Inside, Closes, Heading1, Heading2, Plain, Line, is_code}
 

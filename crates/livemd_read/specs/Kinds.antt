@@ -1,5 +1,5 @@
 -- What a line is. Lines inside a fence have no kind of their own.
-use Rattle.std.specs.Prelude.{ℕ, ◌==◌, ◌&&◌, nat_eq, nat_le, not, suc, Bool, true, false, if◌then◌else◌, Option, Some, None, List, [], ◌∷◌, length, codes}
+use Rattle.std.specs.Prelude.{ℕ, ◌==◌, ◌&&◌, nat_eq, nat_le, not, suc, Bool, false, if◌then◌else◌, Option, Some, None, List, [], ◌∷◌, length, codes}
 use Rattle.std.specs.List.{starts_with, list_all, list_any}
 use Rattle.std.specs.Str.{bytes_eq}
 use Rattle.livemd_read.specs.declared.fences.Fence.{Fence}

@@ -1,5 +1,4 @@
 use Rattle.std.proofs.Common.{◌≡◌, ◌<◌, ◌-◌, false, get_or, arith}
-use native.Mathlib.Nat.{sub-zero}
 use Rattle.livemd_read.specs.Lines.{is_space_or_tab}
 use Rattle.livemd_read.proofs.Trims.{cut_back, cut_ends}
 use Rattle.livemd_read.proofs.fences.without_end_blanks.Goals as goal
