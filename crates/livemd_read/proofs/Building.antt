@@ -1,10 +1,10 @@
 -- The notebook that items give: how it grows, and that it keeps the rules.
-use Rattle.std.proofs.Common.{◌≡◌, ℕ, ◌+◌, ◌-◌, ◌<◌, max, suc, Bool, true, false, cond, List, [], ◌∷◌, ◌++◌, Some, length, take, get_or, set, refl, sym, ap, ◌∙◌, arith, append_assoc, length-append, codes}
+use Rattle.std.proofs.Common.{◌≡◌, ℕ, ◌+◌, ◌-◌, ◌<◌, max, suc, Bool, true, false, cond, List, [], ◌∷◌, ◌++◌, Some, length, get_or, set, refl, sym, ap, ◌∙◌, arith, append_assoc, length-append, codes}
 use Rattle.std.specs.Prelude.{slice_get, slice_set}
-use Rattle.std.specs.List.{fold, flat_map}
+use Rattle.std.specs.List.{flat_map}
 use Rattle.std.specs.Str.{chars}
 use Rattle.std.proofs.lemmas.Grind.{flat_map-append}
-use Rattle.std.proofs.lemmas.List.{append-nil, map-append, take_more}
+use Rattle.std.proofs.lemmas.List.{append-nil}
 use Rattle.std.proofs.lemmas.Option.{get_or_from_slice_get}
 use Rattle.notebook.specs.declared.parts.Cell.{Cell}
 use Rattle.notebook.specs.declared.parts.Saved.{Saved}
@@ -12,25 +12,11 @@ use Rattle.notebook.specs.declared.parts.Section.{Section}
 use Rattle.notebook.specs.declared.parts.Parts.{Parts}
 use Rattle.notebook.specs.declared.parts.Kind.{Kind}
 use Rattle.notebook.specs.declared.parts.Kind.TheVariants as cell
-use Rattle.notebook.specs.Book.{cells_of, section_cells, untitled}
+use Rattle.notebook.specs.Book.{cells_of, section_cells}
 use Rattle.notebook.specs.Rules.{code_count}
-use Rattle.livemd_read.specs.declared.items.Item.{Item}
 use Rattle.livemd_read.specs.Lines.{is_empty}
 use Rattle.livemd_read.specs.Items as item
-use Rattle.livemd_read.specs.Book.{with_section, with_some_section, with_last_cell, with_cell, with_item, book_of}
-use Rattle.livemd_read.specs.Resume.{item_of, views}
-
--- one item more
-fold-more : (n : Parts) (is : List item.Item) (i : item.Item) → fold with_item n (is ++ i ∷ []) ≡ with_item (fold with_item n is) i
-fold-more n [] i = refl
-fold-more n (j ∷ is) i = fold-more (with_item n j) is i
-
-pub book_of-more : (is : List item.Item) (i : item.Item) → book_of (is ++ i ∷ []) ≡ with_item (book_of is) i
-book_of-more is i = fold-more untitled is i
-
-pub views-more : (xs : List Item) (i : ℕ) (x : Item) → i < length xs → x ≡ get_or xs i x → views (take (i + 1) xs) ≡ views (take i xs) ++ item_of x ∷ []
-views-more xs i x within at =
-    ap views (take_more xs i x within ∙ ap (λ y. take i xs ++ y ∷ []) (sym at)) ∙ map-append item_of (take i xs) (x ∷ [])
+use Rattle.livemd_read.specs.Book.{with_section, with_some_section, with_last_cell, with_cell, with_item}
 
 -- one cell more in the last section
 pub length-with_last_cell : (c : Cell) (ss : List Section) → length (with_last_cell c ss) ≡ length ss

@@ -1,34 +1,17 @@
 -- One line taken, in the definitions' terms.
-use Rattle.std.proofs.Common.{◌≡◌, ℕ, suc, Bool, true, false, ◌&&◌, ◌||◌, cond, List, [], ◌∷◌, ◌++◌, Option, Some, None, length, map, refl, sym, ap, ◌∙◌, append_assoc, unwrap_or, arith}
-use Rattle.std.specs.Prelude.{◌==◌}
+use Rattle.std.proofs.Common.{◌≡◌, ℕ, suc, Bool, true, false, ◌&&◌, cond, List, [], ◌∷◌, ◌++◌, Option, Some, None, length, map, refl, sym, ap, ◌∙◌, append_assoc, arith}
 use Rattle.std.specs.List.{flat_map}
 use Rattle.std.specs.Option.{option_map}
 use Rattle.std.specs.String.{string_bytes}
 use Rattle.std.proofs.lemmas.List.{append-nil}
-use Rattle.std.proofs.lemmas.Bool.Decides.{nat_tests}
 use Rattle.livemd_read.specs.declared.fences.Fence.{Fence}
 use Rattle.livemd_read.specs.declared.items.Open.{Open}
 use Rattle.livemd_read.specs.declared.items.Open.TheVariants as open_in
-use Rattle.livemd_read.specs.Lines.{is_empty, drop_end, front_of, is_blank, is_space_or_tab, joined}
-use Rattle.livemd_read.specs.Kinds.{Kind, Opens, Inside, Closes, Heading1, Heading2, Plain, Line, kinded, kind_of, opened, is_closing, fence_after, kind_in}
-use Rattle.livemd_read.specs.Items.{Item, Cut, Name, Section, Markdown, Blank, at_name, is_part, is_blank_line, is_inside, may_stand, text_of, heading, one_line, blank_stretch, markdown, code, code_item, code_lines, cut, cut_by, items}
-use Rattle.livemd_read.specs.Seen.{OpensCode, OpensOther}
+use Rattle.livemd_read.specs.Lines.{is_empty, drop_end, front_of, is_blank, joined}
+use Rattle.livemd_read.specs.Kinds.{Kind, Opens, Inside, Closes, Heading1, Plain, Line, kinded, kind_of, opened, is_closing, fence_after, kind_in}
+use Rattle.livemd_read.specs.Items.{Item, Cut, Name, Markdown, at_name, is_part, is_inside, may_stand, text_of, heading, one_line, blank_stretch, markdown, code, code_item, code_lines, cut, cut_by, items}
+use Rattle.livemd_read.specs.Seen.{OpensOther}
 use Rattle.livemd_read.specs.Resume.{behind_feed, added_by, added, source_with, source_after, resume, fence_in, IsTextOf, IsTextWith, Takes}
-
--- a blank line outside fences is text
-is_thirty_two_or_nine : (x : ℕ) (P : ℕ → Type 0) → is_space_or_tab x ≡ true → P 32 → P 9 → P x
-is_thirty_two_or_nine x P h a b = at (x == 32) (x == 9) refl refl h where
-  at : (s t : Bool) → (x == 32) ≡ s → (x == 9) ≡ t → (s || t) ≡ true → P x
-  at true t e f g = let same : x ≡ 32 = grind (arith, nat_tests) in rw same a
-  at false true e f g = let same : x ≡ 9 = grind (arith, nat_tests) in rw same b
-  at false false e f g = absurd cc
-
-pub blank-plain : (line : List ℕ) → is_blank line ≡ true → kind_of line ≡ Plain
-blank-plain [] h = refl
-blank-plain (x ∷ line) h = is_thirty_two_or_nine x (λ y. kind_of (y ∷ line) ≡ Plain) (first (is_space_or_tab x) (is_blank line) h) refl refl where
-  first : (a b : Bool) → (a && b) ≡ true → a ≡ true
-  first true b e = refl
-  first false b e = e
 
 -- joined lines are the first one and each other behind a line feed
 joined-cons : (l : List ℕ) (ls : List (List ℕ)) → joined (l ∷ ls) ≡ l ++ flat_map behind_feed ls
@@ -75,14 +58,6 @@ pub cut-other_fence : (done : List Item) (line : List ℕ) (fence : Fence) → i
 cut-other_fence done line fence e o rest =
     cut-kind done line (Opens fence o.info) e o.kind rest ∙ ap (λ (b : Bool). cond b (code done rest) (markdown (kinded None line) rest)) o.other
 
-cut-code : (done : List Item) (line : List ℕ) (fence : Fence) → is_blank line ≡ false → OpensCode line fence → (rest : List Line) → cut done (kinded None line) rest ≡ code done rest
-cut-code done line fence e o rest =
-    cut-kind done line (Opens fence o.info) e o.kind rest ∙ ap (λ (b : Bool). cond b (code done rest) (markdown (kinded None line) rest)) o.code
-
--- the fence that is open after a line outside fences
-pub opened-is : (line : List ℕ) (k : Kind) → kind_of line ≡ k → opened (kind_of line) ≡ opened k
-opened-is line k e = ap opened e
-
 -- the name
 pub name_taken : (done new : List Item) (line name : List ℕ) → is_blank line ≡ false → kind_of line ≡ Heading1 → at_name done ≡ true → name ≡ heading 2 line → new ≡ done ++ Name name ∷ [] → Takes done open_in.Nothing new open_in.Nothing line
 name_taken done new line name e k n same more = record {
@@ -91,62 +66,6 @@ name_taken done new line name e k n same more = record {
       let here : cut done (kinded None line) rest ≡ one_line (Name (heading 2 line)) =
       cut-kind done line Heading1 e k rest ∙ ap (λ (b : Bool). cond b (one_line (Name (heading 2 line))) (markdown (kinded None line) rest)) n in
       ap (λ is. items is 0 rest) (more ∙ ap (λ t. done ++ Name t ∷ []) same) ∙ sym (ap (λ (c : Cut). items (done ++ c.item ∷ []) c.more rest) here);
-}
-
--- a section
-pub section_taken : (done new : List Item) (line name : List ℕ) → is_blank line ≡ false → kind_of line ≡ Heading2 → name ≡ heading 3 line → new ≡ done ++ Section name ∷ [] → Takes done open_in.Nothing new open_in.Nothing line
-section_taken done new line name e k same more = record {
-  fence = sym (ap opened k);
-  step = λ rest.
-      ap (λ is. items is 0 rest) (more ∙ ap (λ t. done ++ Section t ∷ []) same) ∙ sym (ap (λ (c : Cut). items (done ++ c.item ∷ []) c.more rest) (cut-kind done line Heading2 e k rest));
-}
-
--- a blank stretch begins, and goes on
-pub blank_begins : (done new : List Item) (line : List ℕ) → is_blank line ≡ true → new ≡ done ++ Blank ∷ [] → Takes done open_in.Nothing new open_in.Blank line
-blank_begins done new line e more = record {
-  fence = sym (ap opened (blank-plain line e));
-  step = λ rest.
-      ap (λ is. items is (length (front_of is_blank_line rest)) rest) more
-      ∙ sym (ap (λ (b : Bool). items (done ++ (cond b (blank_stretch rest) (cut_by (kind_of line) done (kinded None line) rest)).item ∷ []) (cond b (blank_stretch rest) (cut_by (kind_of line) done (kinded None line) rest)).more rest) e);
-}
-
-pub blank_goes_on : (done : List Item) (line : List ℕ) → is_blank line ≡ true → Takes done open_in.Blank done open_in.Blank line
-blank_goes_on done line e = record {
-  fence = sym (ap opened (blank-plain line e));
-  step = λ rest. sym (ap (λ (b : Bool). items done (length (cond b (kinded None line ∷ front_of is_blank_line rest) [])) (kinded None line ∷ rest)) e);
-}
-
--- a line that isn't blank ends the stretch
-pub blank_ends : (done new : List Item) (line : List ℕ) (after : Open) → is_blank line ≡ false → Takes done open_in.Nothing new after line → Takes done open_in.Blank new after line
-blank_ends done new line after e h = record {
-  fence = h.fence;
-  step = λ rest. h.step rest ∙ sym (ap (λ (b : Bool). items done (length (cond b (kinded None line ∷ front_of is_blank_line rest) [])) (kinded None line ∷ rest)) e);
-}
-
--- a code cell begins
-pub code_begins : (done : List Item) (line : List ℕ) (fence : Fence) → is_blank line ≡ false → OpensCode line fence → Takes done open_in.Nothing done (open_in.Code fence None) line
-code_begins done line fence e o = record {
-  fence = sym (ap opened o.kind);
-  step = λ rest. sym (ap (λ (c : Cut). items (done ++ c.item ∷ []) c.more rest) (cut-code done line fence e o rest));
-}
-
--- a line of the kind ends Markdown text where it may not stand in it
-text_ends : (done : List Item) (source blanks : List ℕ) (l : Line) (rest : List Line) → is_part l ≡ false
-    → items (done ++ Markdown (source ++ added blanks (front_of is_part (l ∷ rest))) ∷ []) (length (front_of is_part (l ∷ rest))) (l ∷ rest) ≡ items (done ++ Markdown source ∷ []) 0 (l ∷ rest)
-text_ends done source blanks l rest e =
-    ap (λ (b : Bool). items (done ++ Markdown (source ++ added blanks (cond b (l ∷ front_of is_part rest) [])) ∷ []) (length (cond b (l ∷ front_of is_part rest) [])) (l ∷ rest)) e
-    ∙ ap (λ t. items (done ++ Markdown t ∷ []) 0 (l ∷ rest)) (append-nil source)
-
--- Markdown text ends where a section or a code cell begins
-pub text_ends_at : (done new last : List Item) (source blanks : List ℕ) (s b : _) (line : List ℕ) (after : Open) → string_bytes s ≡ source → string_bytes b ≡ blanks → may_stand (kind_of line) ≡ false → new ≡ done ++ Markdown source ∷ [] → Takes new open_in.Nothing last after line → Takes done (open_in.Text s b None) last after line
-text_ends_at done new last source blanks s b line after es eb e more h = record {
-  fence = h.fence;
-  step = λ rest.
-      h.step rest
-      ∙ (ap (λ is. items is 0 (kinded None line ∷ rest)) more
-      ∙ (sym (text_ends done source blanks (kinded None line) rest e)
-      ∙ ap (λ t. items (done ++ Markdown t ∷ []) (length (front_of is_part (kinded None line ∷ rest))) (kinded None line ∷ rest))
-      (sym (rw (es, eb) refl))));
 }
 
 -- Markdown text with one line more
@@ -177,11 +96,6 @@ text_step done s b line k held fence (open_in.Text longer waiting now) may h = (
       ∙ sym (ap (λ (c : Bool). items (done ++ Markdown (string_bytes s ++ added (string_bytes b) (cond c (l ∷ part) [])) ∷ []) (length (cond c (l ∷ part) [])) (l ∷ rest)) may),
 )
 
-pub text_goes_on : (done : List Item) (s b : _) (line : List ℕ) (fence : Option Fence) (after : Open) → may_stand (kind_of line) ≡ true → opened (kind_of line) ≡ fence → IsTextWith (string_bytes s) (string_bytes b) line fence after → Takes done (open_in.Text s b None) done after line
-text_goes_on done s b line fence after may o h =
-    let t = text_step done s b line (kind_of line) None fence after may h in
-    record { fence = t.0 ∙ sym o; step = t.1 }
-
 stands_inside : (t : Bool) → may_stand (cond t Closes Inside) ≡ true
 stands_inside true = refl
 stands_inside false = refl
@@ -196,10 +110,6 @@ source_more : (o : Option (List ℕ)) (line : List ℕ) (ls : List (List ℕ)) �
 source_more None line ls = joined-cons line ls
 source_more (Some source) line ls = sym (append_assoc source (10 ∷ line) (flat_map behind_feed ls))
 
-pub source_whole : (o : Option (List ℕ)) → source_with o [] ≡ unwrap_or o []
-source_whole None = refl
-source_whole (Some source) = append-nil source
-
 pub code_goes_on : (done : List Item) (fence : Fence) (o : _) (s : _) (line : List ℕ) → is_closing fence line ≡ false → string_bytes s ≡ source_after (option_map string_bytes o) line → Takes done (open_in.Code fence o) done (open_in.Code fence (Some s)) line
 code_goes_on done fence o s line e h = record {
   fence = sym (ap (λ (b : Bool). cond b None (Some fence)) e);
@@ -213,14 +123,3 @@ code_goes_on done fence o s line e h = record {
       ∙ (sym (ap (λ n. items (done ++ code_item done (source_with (option_map string_bytes o) (line ∷ map text_of ls)) ∷ []) n (l ∷ rest)) count)
       ∙ sym (ap (λ (b : Bool). resume done (open_in.Code fence o) (record { kind = cond b Closes Inside; text = line } ∷ rest)) e));
 }
-
-pub code_ends : (done new : List Item) (fence : Fence) (o : _) (line : List ℕ) → is_closing fence line ≡ true → new ≡ done ++ code_item done (unwrap_or (option_map string_bytes o) []) ∷ [] → Takes done (open_in.Code fence o) new open_in.Nothing line
-code_ends done new fence o line e more = record {
-  fence = sym (ap (λ (b : Bool). cond b None (Some fence)) e);
-  step = λ rest.
-      ap (λ is. items is 0 rest) (more ∙ ap (λ t. done ++ code_item done t ∷ []) (sym (source_whole (option_map string_bytes o))))
-      ∙ sym (ap (λ (b : Bool). resume done (open_in.Code fence o) (record { kind = cond b Closes Inside; text = line } ∷ rest)) e);
-}
-
-pub code_finishes : (done new : List Item) (fence : Fence) (o : _) → new ≡ done ++ code_item done (unwrap_or (option_map string_bytes o) []) ∷ [] → new ≡ resume done (open_in.Code fence o) []
-code_finishes done new fence o more = more ∙ ap (λ t. done ++ code_item done t ∷ []) (sym (source_whole (option_map string_bytes o)))
