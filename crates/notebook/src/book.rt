@@ -183,8 +183,8 @@ mod tests {
     fn the_setup_cell_is_its_own_path(rt: HostRuntime) -> Result<(), Fail> {
         let book = Notebook::untitled(rt.alloc())?;
         assert_eq!(rt; book.lane(0), Some(Lane::Main));
-        let path = book.path(rt.alloc(), 0)?;
-        assert_eq!(rt; path.as_slice(), [0].as_slice());
+        let numbers = book.path(rt.alloc(), 0)?;
+        assert_eq!(rt; numbers.as_slice(), [0].as_slice());
         Ok(())
     }
 }
