@@ -1,0 +1,2 @@
+pub mod WorkedTokens
+pub mod WorkedGrammar

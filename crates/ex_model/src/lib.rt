@@ -1,0 +1,6 @@
+//! Code cells: tokens, trees and the grammar.
+#![tactic(auto)]
+
+mod ast;
+
+pub use ast::Operator;
