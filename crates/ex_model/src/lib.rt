@@ -3,4 +3,4 @@
 
 mod ast;
 
-pub use ast::Operator;
+pub use ast::{Node, Operator};
