@@ -1,0 +1,9 @@
+pub mod Tree
+pub mod TreeCode
+pub mod At
+pub mod TreeAt
+pub mod Bound
+pub mod Faults
+pub mod Meaning
+pub mod Means
+pub mod Along
