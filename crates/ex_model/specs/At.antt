@@ -2,7 +2,7 @@
 use Rattle.std.specs.Prelude.{◌≡◌, ◌<◌, ℕ, List, [], ◌∷◌, pos, slice_get, Some}
 use Rattle.ex_model.specs.declared.ast.Node.{Node}
 use Rattle.ex_model.specs.declared.ast.Node.TheVariants.{Literal, Lookup, Bind, Apply}
-use Rattle.ex_model.specs.Tree.{Tree, Integer, Variable, Match, Binary, Pattern, Named}
+use Rattle.ex_model.specs.Tree.{Tree, Integer, Variable, Match, Binary, Named}
 
 -- the node at a place is the top of a tree, whose parts stand at lower places
 abbrev pub IsAt : List Node → ℕ → Tree → Type 0

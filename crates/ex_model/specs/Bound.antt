@@ -12,7 +12,7 @@ value_of (b ∷ bs) x = if bytes_eq b.name x then Some b.value else value_of bs 
 -- a name bound to a value: in the place of its binding, or at the end
 abbrev pub put : List Binding → List ℕ → Value → List Binding
 put [] x v = record { name = x; value = v } ∷ []
-put (b ∷ bs) x v = if bytes_eq b.name x then record { name = b.name; value = v } ∷ bs else b ∷ put bs x v
+put (b ∷ bs) x v = if bytes_eq b.name x then record { name = x; value = v } ∷ bs else b ∷ put bs x v
 
 -- bindings with others put over them, one after the other
 abbrev pub put_all : List Binding → List Binding → List Binding

@@ -8,7 +8,6 @@ use Rattle.ex_model.specs.declared.ast.Operator.TheVariants.{Add, Subtract, Mult
 use Rattle.ex_model.specs.declared.bindings.Binding.{Binding}
 use Rattle.ex_model.specs.declared.fault.Fault.{Fault}
 use Rattle.ex_model.specs.declared.fault.Fault.TheVariants.{ValueTooLarge, TooManySteps, IntegerTooWide, UnboundVariable, BadArgument}
-use Rattle.ex_model.specs.declared.ran.Outcome.{Outcome}
 use Rattle.ex_model.specs.declared.ran.Outcome.TheVariants as Outcomes
 use Rattle.ex_model.specs.declared.ran.Ran.{Ran}
 use Rattle.ex_model.specs.Tree.{Tree, Integer, Variable, Match, Binary, Pattern, Named}

@@ -1,8 +1,8 @@
 -- The tree at a place, computed.
-use Rattle.std.specs.Prelude.{ℕ, zero, suc, List, length, map, pos, ℤ, negsuc, slice_get, Option, Some, None}
+use Rattle.std.specs.Prelude.{ℕ, zero, suc, List, length, map, pos, negsuc, slice_get, Option, Some, None}
 use Rattle.ex_model.specs.declared.ast.Node.{Node}
 use Rattle.ex_model.specs.declared.ast.Node.TheVariants.{Literal, Lookup, Bind, Apply}
-use Rattle.ex_model.specs.Tree.{Tree, Integer, Variable, Match, Binary, Pattern, Named}
+use Rattle.ex_model.specs.Tree.{Tree, Integer, Variable, Match, Binary, Named}
 
 -- the tree of a node, where the trees at places are known; no node and no number below 0 stand in a tree
 abbrev pub node_tree : (ℕ → Tree) → Option Node → Tree

@@ -4,7 +4,7 @@ use Rattle.std.proofs.Common.{ap, sym, ◌∙◌, append_assoc}
 use Rattle.std.specs.Coded.{Coded, code_by, coded×, coded_ℕ, coded_list}
 use Rattle.ex_model.specs.declared.ast.Operator.{Operator}
 use Rattle.ex_model.specs.declared.ast.Operator.TheVariants.{Add, Subtract, Multiply}
-use Rattle.ex_model.specs.Tree.{Tree, Integer, Variable, Match, Binary, Pattern, Named}
+use Rattle.ex_model.specs.Tree.{Tree, Integer, Variable, Match, Binary, Named}
 
 -- an operator as a number, and back
 abbrev pub operator_number : Operator → ℕ
@@ -55,7 +55,7 @@ words_back (Integer n) ws s = refl
 words_back (Variable x) ws s = refl
 words_back (Match (Named x) a) ws s = ap (λ l. back l s) (append_assoc (words a) ((2, x) ∷ []) ws) ∙ words_back a ((2, x) ∷ ws) s
 words_back (Binary o a b) ws s =
-    let w = (3, operator_number o ∷ []) in
+    let w : ℕ × List ℕ = (3, operator_number o ∷ []) in
     ap (λ l. back l s) (append_assoc (words a) (words b ++ w ∷ []) ws)
     ∙ (words_back a ((words b ++ w ∷ []) ++ ws) s
     ∙ (ap (λ l. back l (a ∷ s)) (append_assoc (words b) (w ∷ []) ws)

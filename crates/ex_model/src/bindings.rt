@@ -25,6 +25,12 @@ impl Binding {
             value: self.value.copy()?,
         })
     }
+
+    fn become_of(&mut self, name: Word, value: Value)
+        ensures { self.new ≡ record { name = name; value = value } }
+    {
+        *self = Binding { name, value };
+    }
 }
 
 /// Names with their values, in the order in which the names were first bound.
@@ -78,7 +84,7 @@ impl Bindings {
         ensures err { OnErr result (self.new ≡ self.old) }
     {
         match place_of(&self.bindings, name.as_str()) {
-            Some(place) => self.bindings[place].value = value,
+            Some(place) => self.bindings[place].become_of(name, value),
             None => self.bindings.push(Binding { name, value })?,
         }
         Ok(())
@@ -111,5 +117,7 @@ impl Bindings {
 fn place_of(bindings: &[Binding], name: &str) -> Option<usize>
     ensures { result ≡ position (λ b. bytes_eq b.name name.now) bindings.now }
 {
-    bindings.iter().position(|binding| binding.name.as_str() == name)
+    bindings
+        .iter()
+        .position(|binding| binding.name.as_str() == name)
 }
