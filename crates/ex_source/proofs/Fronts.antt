@@ -1,5 +1,5 @@
 -- What the code finds at the front.
-use Rattle.std.proofs.Common.{◌≡◌, ℕ, ◌+◌, ◌<◌, ◌≤◌, Bool, true, false, if◌then◌else◌, not, List, [], ◌∷◌, ◌++◌, length, take, drop, get_or, Option, Some, None, MatchOption, refl, sym, ap, ◌∙◌, arith, subst, ◌==◌, ◌-◌, zero, suc, add-one, option_map}
+use Rattle.std.proofs.Common.{◌≡◌, ℕ, ◌<◌, ◌≤◌, true, false, List, [], ◌∷◌, length, take, drop, get_or, Option, Some, None, MatchOption, refl, sym, ap, ◌∙◌, arith, subst, ◌==◌, ◌-◌, zero, suc, add-one, option_map}
 use Rattle.std.proofs.lemmas.Bool.Decides.{nat_tests}
 use Rattle.std.proofs.lemmas.List.{take_all}
 use Rattle.std.specs.List.{prefix_len}
@@ -7,7 +7,7 @@ use Rattle.std.proofs.lemmas.List.Sums.{prefix_len-le-length, prefix_len_passes}
 use Rattle.std.specs.Str.{IsUtf8, IsCharBoundary}
 use Rattle.std.proofs.lemmas.Str.{IsCharBoundary-start, IsCharBoundary-after_ascii}
 use Rattle.ex_model.specs.Tokens.{Token, is_word_byte}
-use Rattle.ex_model.specs.Lexing.{Piece, Whole, Newline, goes_on, is_in_line}
+use Rattle.ex_model.specs.Lexing.{Piece, Whole, Newline, goes_on}
 use Rattle.ex_source.specs.declared.front.Kind.{Kind}
 use Rattle.ex_source.specs.declared.front.Kind.TheVariants as K
 use Rattle.ex_source.specs.declared.lexeme.Lexeme.{Lexeme}

@@ -1,5 +1,5 @@
 -- The piece at the front, computed and as the relation has it.
-use Rattle.std.proofs.Common.{◌≡◌, ◌⊎◌, inl, inr, ℕ, zero, suc, ◌+◌, ◌<◌, ◌≤◌, ◌^◌, ◌==◌, ◌&&◌, ◌||◌, nat_lt, Bool, true, false, if◌then◌else◌, cond, not, List, [], ◌∷◌, ◌++◌, length, take, drop, get_or, Option, Some, None, option_map, refl, sym, ap, ◌∙◌, arith, subst, length-append}
+use Rattle.std.proofs.Common.{◌≡◌, ◌⊎◌, inl, inr, ℕ, zero, suc, ◌+◌, ◌<◌, ◌≤◌, ◌^◌, ◌==◌, ◌&&◌, ◌||◌, nat_lt, Bool, true, false, if◌then◌else◌, cond, not, List, [], ◌∷◌, ◌++◌, length, take, drop, Option, Some, None, option_map, refl, sym, ap, ◌∙◌, arith, subst}
 use Rattle.std.proofs.lemmas.Bool.Decides.{nat_tests}
 use Rattle.std.proofs.lemmas.List.Sums.{prefix_len-le-length}
 use Rattle.std.specs.List.{prefix_len, list_all}
@@ -9,10 +9,8 @@ use Rattle.ex_model.specs.Tokens.{Token, Number, Name, Sign, Equals, Opening, Cl
 use Rattle.ex_model.specs.Lexing.{Piece, Blank, Comment, Newline, Semicolon, Whole, Writes, space, tab, comment, feed, return_feed, semicolon, number, name, plus, minus, times, equals, opening, closing, goes_on, is_in_line, NotFirst, Pieces, none, next}
 use Rattle.ex_source.specs.declared.front.Kind.{Kind}
 use Rattle.ex_source.specs.declared.front.Kind.TheVariants as K
-use Rattle.ex_source.specs.declared.lexeme.Mark.{Mark}
 use Rattle.ex_source.specs.declared.lexeme.Mark.TheVariants as M
 use Rattle.ex_source.specs.Front.{kind_of, front, front_by, first_is, word_token}
-use Rattle.ex_source.specs.Lexemes.{mark_token}
 
 -- both of two tests, and each
 and_left : (a b : Bool) → (a && b) ≡ true → a ≡ true

@@ -1,25 +1,24 @@
 -- Tokens, a piece at a time.
-use Rattle.std.proofs.Common.{◌≡◌, ℕ, zero, suc, ◌+◌, ◌-◌, ◌<◌, ◌≤◌, ◌||◌, not, Bool, true, false, if◌then◌else◌, List, [], ◌∷◌, ◌++◌, length, take, drop, get_or, Option, Some, None, MatchOption, refl, sym, ap, ◌∙◌, arith, subst, append_assoc, length-append, length-drop, lit<, ◌==◌}
-use Rattle.std.proofs.lemmas.List.{append-nil, take_all}
+use Rattle.std.proofs.Common.{◌≡◌, ℕ, ◌<◌, ◌≤◌, ◌||◌, not, Bool, true, false, if◌then◌else◌, List, [], ◌∷◌, ◌++◌, length, take, drop, get_or, Option, Some, None, refl, sym, ap, ◌∙◌, arith, subst, append_assoc, length-append, length-drop, lit<, ◌==◌}
+use Rattle.std.proofs.lemmas.List.{append-nil}
 use Rattle.std.proofs.Math.Seq.{get_or-append_seam}
 use Rattle.std.proofs.lemmas.Bool.Decides.{nat_tests}
-use Rattle.std.specs.List.{list_all, prefix_len}
+use Rattle.std.specs.List.{list_all}
 use Rattle.std.specs.Str.{IsUtf8, IsCharBoundary}
 use Rattle.std.proofs.lemmas.Str.{IsCharBoundary-after_ascii}
 use Rattle.ex_model.specs.declared.ast.Operator.TheVariants.{Add, Subtract, Multiply}
-use Rattle.ex_model.specs.Tokens.{Token, Number, Name, Sign, Equals, Opening, Closing, Separator, is_word_byte}
-use Rattle.ex_model.specs.Lexing.{Piece, Blank, Comment, Newline, Semicolon, Whole, Writes, space, tab, comment, feed, return_feed, semicolon, number, name, plus, minus, times, equals, opening, closing, goes_on, is_in_line, NotFirst, Pieces, none, next}
-use Rattle.ex_model.specs.Newlines.{Gap, Nothing, Newlines, Semicolons, drops_after, drops_before, separators, tokens_after, tokens_of, Lexes}
+use Rattle.ex_model.specs.Tokens.{Token, Separator, is_word_byte}
+use Rattle.ex_model.specs.Lexing.{Piece, Whole, Writes, space, tab, comment, feed, return_feed, semicolon, number, name, plus, minus, times, equals, opening, closing, goes_on, is_in_line, NotFirst, Pieces, none}
+use Rattle.ex_model.specs.Newlines.{Gap, Nothing, Newlines, Semicolons, drops_after, drops_before, separators, tokens_after, Lexes}
 use Rattle.ex_source.specs.declared.lexeme.Lexeme.{Lexeme}
 use Rattle.ex_source.specs.declared.lexeme.Lexeme.TheVariants as X
 use Rattle.ex_source.specs.declared.lexeme.Mark.{Mark}
 use Rattle.ex_source.specs.declared.lexeme.Mark.TheVariants as M
-use Rattle.ex_source.specs.declared.lexeme.Part.{Part}
-use Rattle.ex_source.specs.Lexemes.{IsLexeme, is_integer, is_name, is_mark, is_separator, AreLexemes, mark_token, IsPart}
+use Rattle.ex_source.specs.Lexemes.{IsLexeme, is_integer, is_name, is_mark, is_separator, AreLexemes, mark_token}
 use Rattle.ex_source.specs.Settled.{separates, lexeme_drops_after, lexeme_drops_before, Adds, HasTokens, HasNoTokens}
 use Rattle.ex_source.specs.Front.{front}
 use Rattle.ex_source.proofs.Fronts.{word_boundary}
-use Rattle.ex_source.proofs.Pieces.{Fronts, front_sound, pieces_on, pieces_at, no_pieces, pieces_end, take_drop, passes_whole, digits_words, name_words}
+use Rattle.ex_source.proofs.Pieces.{front_sound, pieces_on, pieces_at, no_pieces, pieces_end, take_drop, passes_whole, digits_words, name_words}
 
 pub are_more : (xs : List Lexeme) (ts : List Token) (x : Lexeme) (t : Token) → AreLexemes xs ts → IsLexeme x t → AreLexemes (xs ++ x ∷ []) (ts ++ t ∷ [])
 are_more [] [] x t h i = (i, tt)
@@ -28,7 +27,7 @@ are_more (y ∷ xs) [] x t h i = absurd h
 are_more (y ∷ xs) (u ∷ ts) x t h i = (h.0, are_more xs ts x t h.1 i)
 
 pub after_same : {x : Lexeme} {t : Token} → IsLexeme x t → lexeme_drops_after x ≡ drops_after (Some t)
-after_same is_integer = refl
+after_same (is_integer lt) = refl
 after_same is_name = refl
 after_same (is_mark {m}) = of m
   where
@@ -40,7 +39,7 @@ after_same (is_mark {m}) = of m
 after_same is_separator = refl
 
 pub before_same : {x : Lexeme} {t : Token} → IsLexeme x t → lexeme_drops_before x ≡ drops_before (Some t)
-before_same is_integer = refl
+before_same (is_integer lt) = refl
 before_same is_name = refl
 before_same (is_mark {m}) = of m
   where

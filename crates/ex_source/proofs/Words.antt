@@ -1,5 +1,5 @@
 -- Numbers and names.
-use Rattle.std.proofs.Common.{◌≡◌, ◌≢◌, ℕ, ℤ, pos, ◌+◌, ◌-◌, ◌<◌, ◌≤◌, ◌^◌, ◌&&◌, Bool, true, false, if◌then◌else◌, nat_lt, not, List, [], ◌∷◌, length, get_or, Option, Some, None, Result, Ok, Err, MatchOption, refl, sym, ap, ◌∙◌, arith, rules}
+use Rattle.std.proofs.Common.{◌≡◌, ◌≢◌, ℕ, ℤ, pos, ◌<◌, ◌^◌, ◌&&◌, Bool, true, false, nat_lt, List, [], ◌∷◌, length, get_or, Some, None, Result, Ok, Err, MatchOption, refl, arith, rules}
 use mir.Syntax.{w128}
 use mir.Val.{to_z, of_z, SFits}
 use Rattle.std.proofs.lemmas.Int.{to_z-of_z}
@@ -55,12 +55,16 @@ name_read word x first named plain e = (Name word, rw e is_name_lexeme, rw (firs
 pub feed_ends : (b : ℕ) → b ≡ 10 → is_in_line b ≡ false
 feed_ends b e = rw e refl
 
+fits : (n : ℕ) → n < 2 ^ 127 → SFits w128 (pos n)
+fits n h = search rules
+
+-- a number in range is what is kept of it
+pub kept : (n : ℕ) → n < 2 ^ 127 → to_z w128 (of_z w128 (pos n)) ≡ pos n
+kept n h = to_z-of_z w128 (pos n) (fits n h)
+
 -- a number that was read
 pub number_read : (word : List ℕ) (z : ℤ) → (z ≡ pos (digits_value 10 word)) × (digits_value 10 word < 2 ^ 127) × (word_token word ≡ Some (Number (digits_value 10 word)))
     → (t : Token) × IsLexeme (Integer (to_z w128 (of_z w128 z))) t × (word_token word ≡ Some t)
 number_read word z h =
-    let same : to_z w128 (of_z w128 (pos (digits_value 10 word))) ≡ pos (digits_value 10 word) = to_z-of_z w128 (pos (digits_value 10 word)) (fits (digits_value 10 word) h.1) in
-    rw (h.0, same) (Number (digits_value 10 word), is_integer, h.2)
-  where
-    fits : (n : ℕ) → n < 2 ^ 127 → SFits w128 (pos n)
-    fits n h = search rules
+    let same : to_z w128 (of_z w128 (pos (digits_value 10 word))) ≡ pos (digits_value 10 word) = kept (digits_value 10 word) h.1 in
+    rw (h.0, same) (Number (digits_value 10 word), is_integer h.1, h.2)

@@ -1,11 +1,10 @@
 -- What stands at the front of a source, computed.
-use Rattle.std.specs.Prelude.{◌≡◌, ℕ, ◌+◌, ◌<◌, ◌^◌, ◌==◌, ◌&&◌, ◌||◌, not, nat_lt, if◌then◌else◌, Bool, true, false, List, [], ◌∷◌, take, slice_index, Option, Some, None, option_map}
+use Rattle.std.specs.Prelude.{ℕ, ◌^◌, ◌==◌, ◌&&◌, ◌||◌, not, nat_lt, if◌then◌else◌, Bool, false, List, [], ◌∷◌, take, Option, Some, None, option_map}
 use Rattle.std.specs.List.{list_all, prefix_len}
 use Rattle.std.specs.Str.Parse.{digits_value}
 use Rattle.ex_model.specs.declared.ast.Operator.TheVariants.{Add, Subtract, Multiply}
 use Rattle.ex_model.specs.Tokens.{Token, Number, Name, is_digit, is_word_byte, is_name, is_keyword}
 use Rattle.ex_model.specs.Lexing.{Piece, Blank, Comment, Newline, Semicolon, Whole, is_in_line, goes_on}
-use Rattle.ex_source.specs.declared.lexeme.Mark.{Mark}
 use Rattle.ex_source.specs.declared.lexeme.Mark.TheVariants.{Sign, Equals, Opening, Closing}
 use Rattle.ex_source.specs.declared.front.Kind.{Kind}
 use Rattle.ex_source.specs.declared.front.Kind.TheVariants as K

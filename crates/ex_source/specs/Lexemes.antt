@@ -1,6 +1,5 @@
 -- What the tokens and the pieces of the code stand for.
-use Rattle.std.specs.Prelude.{◌≡◌, ℕ, pos, List, [], ◌∷◌}
-use Rattle.ex_model.specs.declared.ast.Operator.{Operator}
+use Rattle.std.specs.Prelude.{◌<◌, ◌^◌, ℕ, pos, List, [], ◌∷◌}
 use Rattle.ex_model.specs.Tokens as T
 use Rattle.ex_model.specs.Tokens.{Token}
 use Rattle.ex_model.specs.Lexing as L
@@ -21,7 +20,7 @@ mark_token Closing = T.Closing
 
 -- the code's token is this one
 pub data IsLexeme : Lexeme → Token → Type 0 where
-  is_integer : {n : ℕ} → IsLexeme (Integer (pos n)) (T.Number n)
+  is_integer : {n : ℕ} → n < 2 ^ 127 → IsLexeme (Integer (pos n)) (T.Number n)
   is_name : {x : List ℕ} → IsLexeme (Name x) (T.Name x)
   is_mark : {m : SignMark} → IsLexeme (Mark m) (mark_token m)
   is_separator : IsLexeme Separator T.Separator

@@ -1,8 +1,8 @@
 -- Tokens with settled newlines, as the code makes them.
-use Rattle.std.specs.Prelude.{◌≡◌, ℕ, not, Bool, true, false, List, [], ◌∷◌, ◌++◌, Option, Some, None}
-use Rattle.ex_model.specs.declared.ast.Operator.TheVariants.{Add, Subtract, Multiply}
+use Rattle.std.specs.Prelude.{◌≡◌, ℕ, not, Bool, true, false, List, ◌∷◌, ◌++◌, Option}
+use Rattle.ex_model.specs.declared.ast.Operator.TheVariants.{Multiply}
 use Rattle.ex_model.specs.Tokens.{Token}
-use Rattle.ex_model.specs.Lexing.{Piece, Pieces}
+use Rattle.ex_model.specs.Lexing.{Piece}
 use Rattle.ex_model.specs.Newlines.{Gap, Nothing, Newlines, Semicolons, drops_after, tokens_after, Lexes}
 use Rattle.ex_source.specs.declared.lexeme.Lexeme.{Lexeme}
 use Rattle.ex_source.specs.declared.lexeme.Lexeme.TheVariants as X

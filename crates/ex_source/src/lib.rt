@@ -8,4 +8,9 @@
 
 mod front;
 mod lexeme;
+mod nesting;
+mod parser;
+mod reading;
 mod tokens;
+
+pub use reading::read;

@@ -1,4 +1,3 @@
-use Rattle.std.proofs.Common.{MatchOption, sym}
 use Rattle.ex_source.proofs.Words.{integer_read}
 use Rattle.ex_source.proofs.front.integer.Goals as goal
 

@@ -1,4 +1,4 @@
-use Rattle.std.proofs.Common.{◌≡◌, ◌∙◌, ap, sym, take}
+use Rattle.std.proofs.Common.{◌≡◌, take}
 use native.Mathlib.Nat.{sub-zero}
 use Rattle.std.specs.List.{prefix_len}
 use Rattle.ex_model.specs.Tokens.{is_word_byte}

@@ -1,4 +1,4 @@
-use Rattle.std.proofs.Common.{◌≡◌, ◌<◌, false, get_or, length, sym, arith, ◌∙◌}
+use Rattle.std.proofs.Common.{sym, arith, ◌∙◌}
 use Rattle.std.proofs.lemmas.List.Sums.{prefix_len_is}
 use Rattle.ex_model.specs.Tokens.{is_word_byte}
 use Rattle.ex_source.proofs.front.word_len.Goals as goal

@@ -1,4 +1,4 @@
-use Rattle.std.proofs.Common.{◌≡◌, true, false, sym, ◌∙◌}
+use Rattle.std.proofs.Common.{◌≡◌, true, false}
 use Rattle.ex_model.specs.Tokens.{is_digit, is_name, is_keyword}
 use Rattle.ex_source.specs.Front.{first_is}
 use Rattle.ex_source.proofs.Words.{name_read}

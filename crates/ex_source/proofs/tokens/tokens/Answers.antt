@@ -1,7 +1,6 @@
-use Rattle.std.proofs.Common.{◌≡◌, ◌<◌, [], length, drop, sym, ap, subst, ◌∙◌, refl, None, false, arith}
+use Rattle.std.proofs.Common.{◌<◌, length, sym, subst, false, arith}
 use Rattle.ex_model.specs.Newlines.{Nothing}
 use Rattle.ex_source.specs.Settled.{gap_of}
-use Rattle.ex_source.specs.Front.{front}
 use Rattle.ex_source.proofs.Pieces.{front_sound}
 use Rattle.ex_source.proofs.Settling.{Lexed, lexed_start, lexed_turn, lexed_none, lexed_out, front_boundary, is_some, is_none}
 use Rattle.ex_source.proofs.tokens.tokens.Goals as goal

@@ -1,4 +1,4 @@
-use Rattle.std.proofs.Common.{Some, sym, ◌∙◌}
+use Rattle.std.proofs.Common.{Some, ◌∙◌}
 use Rattle.ex_source.proofs.Settling.{put_adds, before_same}
 use Rattle.ex_source.specs.Settled.{gap_of}
 use Rattle.ex_source.proofs.tokens.Settled.put.Goals as goal
