@@ -1,3 +1,5 @@
 pub mod Puts
 pub mod Arena
 mod Worked
+pub mod WorkedTokens
+pub mod WorkedGrammar

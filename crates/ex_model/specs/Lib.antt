@@ -7,3 +7,9 @@ pub mod Faults
 pub mod Meaning
 pub mod Means
 pub mod Along
+pub mod Tokens
+pub mod Lexing
+pub mod Newlines
+pub mod Grammar
+pub mod Nests
+pub mod Reads

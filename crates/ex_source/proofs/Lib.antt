@@ -1,0 +1,4 @@
+pub mod Words
+pub mod Fronts
+pub mod Pieces
+pub mod Settling
