@@ -3,3 +3,4 @@ pub mod Arena
 mod Worked
 pub mod WorkedTokens
 pub mod WorkedGrammar
+pub mod Once

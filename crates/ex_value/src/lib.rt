@@ -167,3 +167,6 @@ fn is_value_word(text: &str) -> bool
 {
     text == "nil" || text == "true" || text == "false"
 }
+
+#[cfg(test)]
+mod tests;
