@@ -1,5 +1,5 @@
 -- The expressions of a source, one after the other.
-use Rattle.std.proofs.Common.{◌≡◌, ◌≢◌, ◌⊎◌, inl, inr, List, [], ◌∷◌, ◌++◌, refl, sym, ap, ◌∙◌, subst, append_assoc}
+use Rattle.std.proofs.Common.{◌≡◌, ◌≢◌, ◌⊎◌, inl, inr, List, [], ◌∷◌, ◌++◌, refl, sym, ap, ◌∙◌, subst, append_assoc, arith, length}
 use Rattle.std.proofs.lemmas.List.{append-nil}
 use Rattle.ex_model.specs.Tokens.{Token, Separator}
 use Rattle.ex_model.specs.Tree.{Tree}
@@ -7,7 +7,7 @@ use Rattle.ex_model.specs.Grammar.{Derives, Body, empty, last, more, Top, plain,
 use Rattle.ex_source.specs.Machine.{Want, Done, Stuck, Reaches, here, there}
 use Rattle.ex_source.specs.Shown.{HasTrees}
 use Rattle.ex_source.proofs.Sound.{Front}
-use Rattle.ex_source.proofs.Laws.{one_end, comes_to, front_of}
+use Rattle.ex_source.proofs.Laws.{one_end, comes_to, front_of, derives_some}
 
 -- what is left after an expression: nothing, or a separator and a body
 abbrev pub Ends : List Token → List Tree → Type 0
@@ -146,3 +146,48 @@ parsing_end all done p = record {
   top = subst (λ v. Top all v) (append-nil done) (p.back [] empty);
   only = λ us h. let f = p.forth us h in f.2 ∙ (ap (λ v. done ++ v) (body_nil [] f.0 f.1 refl) ∙ append-nil done);
 }
+
+-- a body has one list of trees
+body_one : {all : List Token} {us vs : List Tree} → Body all us → Body all vs → us ≡ vs
+body_one {vs = vs} empty c = sym (body_nil [] vs c refl)
+body_one (last {ts} {t} d) c =
+    let r = subst (λ v. Reaches (Want [] v) (Done t [])) (append-nil ts) (comes_to ts [] t d tt) in
+    let f = body_first c (never ts t d) r in
+    sym (f.are ∙ ap (λ v. t ∷ v) (of f.trees f.ends))
+  where
+    never : (ts : List Token) (t : Tree) → Derives 0 ts t → ts ≢ []
+    never ts t d e = omega (arith, derives_some d, ap length e)
+
+    off : (after : List Token) → [] ≡ Separator ∷ after → ⊥
+    off after e = cc
+
+    of : (trees : List Tree) → Ends [] trees → trees ≡ []
+    of trees (inl e) = e.1
+    of trees (inr e) = absurd (off e.0 e.1)
+body_one (more {ts} {us} {t} {trees} d b) c =
+    let f = body_first c (never ts us) (comes_to ts (Separator ∷ us) t d tt) in
+    sym (f.are ∙ ap (λ v. t ∷ v) (of us f.trees (λ ws w. sym (body_one b w)) f.ends))
+  where
+    never : (ts us : List Token) → ts ++ Separator ∷ us ≢ []
+    never [] us e = cc
+    never (u ∷ ts) us e = cc
+
+    of : (us : List Token) (vs : List Tree) → ((ws : List Tree) → Body us ws → ws ≡ trees) → Ends (Separator ∷ us) vs → vs ≡ trees
+    of us vs one (inl e) = absurd (let k = e.0 in off us k)
+      where
+        off : (us : List Token) → Separator ∷ us ≡ [] → ⊥
+        off us e = cc
+    of us vs one (inr e) = one vs (subst (λ v. Body v vs) (same us e.0 e.1) e.2)
+      where
+        same : (us after : List Token) → Separator ∷ us ≡ Separator ∷ after → after ≡ us
+        same us after e = cc
+
+-- and so has a source
+pub top_one : (all : List Token) (us vs : List Tree) → Top all us → Top all vs → us ≡ vs
+top_one all us vs (plain b) (plain c) = body_one b c
+top_one all us vs (begun b) h = of all b h refl
+  where
+    of : {ts : List Token} (all : List Token) → Body ts us → Top all vs → all ≡ Separator ∷ ts → us ≡ vs
+    of all b (plain c) e = absurd (body_stuck c (λ f. cc) (subst (λ v. Reaches (Want [] v) Stuck) (sym e) (there here)))
+    of {ts} all b (begun {ts = rs} c) e = let s : rs ≡ ts = cc in body_one b (subst (λ v. Body v vs) s c)
+top_one all us vs (plain b) (begun {ts} c) = absurd (body_stuck b (λ f. cc) (there here))

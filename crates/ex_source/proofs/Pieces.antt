@@ -359,3 +359,10 @@ pieces_end {ps} d = of [] ps d refl
         let g = front_complete w rest f in
         let k = ap front h in
         cc
+
+-- a source is cut into pieces in one way
+pub pieces_one : {all : List ℕ} {ps qs : List Piece} → Pieces all ps → Pieces all qs → ps ≡ qs
+pieces_one none d = sym (pieces_end d)
+pieces_one (next {bytes} {rest} {p} {ps} w f d) e =
+    let k = pieces_on p (length bytes) e (front_complete w rest f) in
+    sym (k.1 ∙ ap (λ v. p ∷ v) (sym (pieces_one d (subst (λ v. Pieces v k.0) (drop_front bytes rest) k.2))))
