@@ -14,3 +14,6 @@ mod reading;
 mod tokens;
 
 pub use reading::read;
+
+#[cfg(test)]
+mod tests;
