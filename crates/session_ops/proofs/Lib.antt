@@ -8,3 +8,4 @@ pub mod Shown
 pub mod Sources
 pub mod Sweeps
 mod Worked
+pub mod MainFlow

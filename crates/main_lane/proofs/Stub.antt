@@ -1,5 +1,0 @@
--- Stub.
-use Rattle.main_lane.specs.Tracks.{Never, never_more}
-
-pub never : {A : Type 0} → Never → A
-never (never_more x) = never x
