@@ -1,47 +1,71 @@
-//! Composes and transforms two long deltas, so that `scripts/bench` can time how the cost grows.
+//! What composing, transforming and taking turns cost: `scripts/bench` starts this program with growing numbers.
 //!
-//! The first word is the number of pairs of steps of each delta, 500 where there is none. The program
-//! prints how many steps the composition and the transform have.
+//! Without words it does each once at a small size, and prints only what comes out, which is the same at every run.
+//! `deltas PAIRS` composes and transforms two deltas of that many pairs of steps. `turns THREADS TURNS` takes that many
+//! turns on each thread, at the turn lock and at a mutex. These two print microseconds too.
 #![tactic(auto)]
 
-use delta::{Delta, Side, Step, compose, have_room, transform};
-use std::alloc::{AllocError, Global};
+mod deltas;
+mod measured;
+mod turns;
+mod words;
+
+use measured::tell;
+use std::alloc::Global;
+use std::process::ExitCode;
+use std::sync::Wait;
+use std::thread::Threads;
+use std::time::Clock;
 use std::{env, io};
-use utf16_text::Text;
+use words::{Crew, Task, task_of};
 
-/// As many pairs of a retain of one unit and an insert of a text.
-fn long_steps(alloc: Global, pairs: u64, text: &str) -> Result<Vec<Step>, AllocError> {
-    let mut steps = Vec::new(alloc);
-    for _ in 0..pairs {
-        steps.push(Step::Retain(1))?;
-        steps.push(Step::Insert(Text::of(alloc, text)?))?;
-    }
-    Ok(steps)
-}
-
-/// The number of pairs that the words ask for.
-fn pairs_of(words: &[String]) -> u64 {
-    match words.get(1) {
-        Some(word) => word.parse().unwrap_or(500),
-        None => 500,
-    }
-}
-
-fn main(rt: HostRuntime) -> io::Result<()> {
+fn main(rt: HostRuntime) -> io::Result<ExitCode> {
     let alloc = rt.alloc();
     let words: Vec<String> = env::args(&rt)?.collect(alloc)?;
-    let pairs = pairs_of(&words);
-    let first = Delta::from_compact(long_steps(alloc, pairs, "x")?);
-    let second = Delta::from_compact(long_steps(alloc, pairs, "y")?);
-    if let (Ok(a), Ok(b)) = (first, second) {
-        if have_room(&a, &b) {
-            let composed = compose(alloc, &a, &b)?;
-            let moved = transform(alloc, &a, &b, Side::Left)?;
-            let composed = composed.to_compact().len();
-            let moved = moved.to_compact().len();
-            println!(rt; "composed {composed} steps")?;
-            println!(rt; "transformed {moved} steps")?;
+    match task_of(&words) {
+        Some(task) => {
+            run(&rt, alloc, task)?;
+            Ok(ExitCode::from(0))
+        }
+        None => {
+            eprintln!(rt; "usage: measure [deltas PAIRS | turns THREADS TURNS]")?;
+            Ok(ExitCode::from(1))
         }
     }
+}
+
+fn run<R: Threads + Wait + Sync + Clock + Print>(
+    rt: &R,
+    alloc: Global,
+    task: Task,
+) -> io::Result<()> {
+    match task {
+        Task::Small { crew } => {
+            run_deltas(rt, alloc, 500, false)?;
+            run_turns(rt, alloc, crew, false)?;
+            Ok(())
+        }
+        Task::Deltas { pairs } => run_deltas(rt, alloc, pairs, true),
+        Task::Turns { crew } => run_turns(rt, alloc, crew, true),
+    }
+}
+
+fn run_deltas<R: Clock + Print>(rt: &R, alloc: Global, pairs: u64, timed: bool) -> io::Result<()> {
+    let steps = deltas::measure(rt, alloc, pairs)?;
+    tell(rt, "composed steps", &steps.composed, timed)?;
+    tell(rt, "transformed steps", &steps.transformed, timed)?;
+    Ok(())
+}
+
+fn run_turns<R: Threads + Wait + Sync + Clock + Print>(
+    rt: &R,
+    alloc: Global,
+    crew: Crew,
+    timed: bool,
+) -> io::Result<()> {
+    let turn_lock = turns::at_the_turn_lock(rt, alloc, crew)?;
+    tell(rt, "turns at the turn lock", &turn_lock, timed)?;
+    let mutex = turns::at_a_mutex(rt, alloc, crew)?;
+    tell(rt, "turns at a mutex", &mutex, timed)?;
     Ok(())
 }
