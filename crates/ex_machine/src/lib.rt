@@ -14,28 +14,48 @@ ghost use Rattle.ex_value.specs.Values.{nil, size_of};
 ghost use Rattle.ex_model.specs.Tree.{Tree};
 ghost use Rattle.ex_model.specs.At.{IsAt, AreAt};
 ghost use Rattle.ex_model.specs.Meaning.{meaning, meaning_of, made_size, and_then, in_turn, kept_small, ran_of};
+ghost use Rattle.ex_model.specs.Means.{Means};
 ghost use Rattle.ex_machine.specs.Evaluations.{evaluated};
 
 use crate::machine::{Ended, evaluate_at};
 use ex_model::{Ast, Bindings, Fault, Node, Outcome, Ran, Shown};
+use ex_source::read;
 use ex_value::{Value, Word};
 use std::alloc::{AllocError, Global};
+
+/// The largest number of bytes of a source.
+const MOST_BYTES: usize = 1_048_576;
 
 /// The largest number of units of a value together with the values that its cell bound.
 const MOST_UNITS: u64 = 8192;
 
 /// What a body means over bindings, within a limit of steps. The bindings stay as they are.
-pub fn evaluate(
-    alloc: Global,
-    ast: &Ast,
-    base: &Bindings,
-    limit: u64,
-) -> Result<Ran, AllocError>
+pub fn evaluate(alloc: Global, ast: &Ast, base: &Bindings, limit: u64) -> Result<Ran, AllocError>
     ensures { IfOk result (λ ran. ran ≡ meaning ast.now base.now limit) }
 {
     let parts = ast.parts();
     let ended = evaluate_in_turn(alloc, parts.nodes, parts.roots, base, limit)?;
     ran_of(alloc, kept_small(ended), limit)
+}
+
+/// What a source means over bindings, within a limit of steps. The bindings stay as they are.
+pub fn run(alloc: Global, source: &str, base: &Bindings, limit: u64) -> Result<Ran, AllocError>
+    ensures { IfOk result (λ ran. Means source.now base.now limit ran) }
+{
+    if source.len() > MOST_BYTES {
+        let ran = failed(alloc, Fault::SourceTooLong, 0)?;
+        return Ok(ran);
+    }
+    match read(alloc, source)? {
+        Some(ast) => {
+            let ran = evaluate(alloc, &ast, base, limit)?;
+            Ok(ran)
+        }
+        None => {
+            let ran = failed(alloc, Fault::Unbuilt, 0)?;
+            Ok(ran)
+        }
+    }
 }
 
 /// Evaluates expressions one after the other, up to the first fault.
@@ -147,8 +167,9 @@ fn ran_of(alloc: Global, ended: Ended, limit: u64) -> Result<Ran, AllocError>
 /// A fault after some steps, after which nothing is made.
 fn failed(alloc: Global, fault: Fault, steps: u64) -> Result<Ran, AllocError>
     ensures { IfOk result (λ ran. ran ≡ record {
-        shown = record { printed = []; outcome = Outcome.Fault fault; steps = steps };
-        made = [] }) }
+      shown = record { printed = []; outcome = Outcome.Fault fault; steps = steps };
+      made = [];
+    }) }
 {
     let shown = shown(alloc, Outcome::Fault(fault), steps)?;
     Ok(Ran {
@@ -167,3 +188,6 @@ fn shown(alloc: Global, outcome: Outcome, steps: u64) -> Result<Shown, AllocErro
         steps,
     })
 }
+
+#[cfg(test)]
+mod tests;

@@ -160,12 +160,7 @@ impl Machine {
     }
 
     /// Begins the node at a place, for one step.
-    fn enter(
-        &mut self,
-        nodes: &[Node],
-        base: &Bindings,
-        place: usize,
-    ) -> Result<Spot, AllocError>
+    fn enter(&mut self, nodes: &[Node], base: &Bindings, place: usize) -> Result<Spot, AllocError>
         requires { (t : Tree) × IsAt nodes.now place t }
         ensures future { IfOk result (λ next. (t : Tree) (rests : List Rest) → IsAt nodes.now place t → AreFrames nodes.now self.old.frames.items rests →
             IsFuture nodes.now base.now self.new.frames.items self.new.made self.new.left next (resumed base.now rests (meaning_of base.now t self.old.made self.old.left))) }
