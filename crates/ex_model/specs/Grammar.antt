@@ -33,15 +33,21 @@ right o = level o + 1
 
 -- the tokens derive the pattern
 pub data IsPattern : List Token → Pattern → Type 0 where
+  -- a name
   named : (x : List ℕ) → IsPattern (Name x ∷ []) (Named x)
 
 -- the tokens derive the tree at a level
 pub data Derives : ℕ → List Token → Tree → Type 0 where
+  -- an integer, and a name
   integer : (n : ℕ) → Derives primary_level (Number n ∷ []) (Integer n)
   variable : (x : List ℕ) → Derives primary_level (Name x ∷ []) (Variable x)
+  -- a match in brackets
   parentheses : {ts : List Token} {t : Tree} → Derives match_level ts t → Derives primary_level (Opening ∷ (ts ++ Closing ∷ [])) t
+  -- an operator between its operands, each of the level that stands there
   binary : {o : Operator} {xs ys : List Token} {a b : Tree} → Derives (left o) xs a → Derives (right o) ys b → Derives (level o) (xs ++ Sign o ∷ ys) (Binary o a b)
+  -- pattern = match
   match : {xs ys : List Token} {p : Pattern} {t : Tree} → IsPattern xs p → Derives match_level ys t → Derives match_level (xs ++ Equals ∷ ys) (Match p t)
+  -- what derives at a tighter level stands at a looser one too
   tighter : {l m : ℕ} {ts : List Token} {t : Tree} → l ≤ m → Derives m ts t → Derives l ts t
 
 -- expressions between separators, of which one may stand last; there may be none

@@ -19,14 +19,21 @@ is_in_line b = not (b == 10)
 
 -- the bytes write the piece
 pub data Writes : List ℕ → Piece → Type 0 where
+  -- a space, and a tab
   space : Writes (32 ∷ []) Blank
   tab : Writes (9 ∷ []) Blank
+  -- `#` and what follows it on the line
   comment : {text : List ℕ} → list_all is_in_line text ≡ true → Writes (35 ∷ text) Comment
+  -- a LF, alone or with a CR before it
   feed : Writes (10 ∷ []) Newline
   return_feed : Writes (13 ∷ 10 ∷ []) Newline
+  -- `;`
   semicolon : Writes (59 ∷ []) Semicolon
+  -- digits, of a value of at most 2^127 - 1
   number : {d : ℕ} {ds : List ℕ} → list_all is_digit (d ∷ ds) ≡ true → digits_value 10 (d ∷ ds) < 2 ^ 127 → Writes (d ∷ ds) (Whole (Number (digits_value 10 (d ∷ ds))))
+  -- a name that is none of the words
   name : {x : List ℕ} → is_name x ≡ true → is_keyword x ≡ false → Writes x (Whole (Name x))
+  -- `+`, `-`, `*`, `=`, `(` and `)`
   plus : Writes (43 ∷ []) (Whole (Sign Add))
   minus : Writes (45 ∷ []) (Whole (Sign Subtract))
   times : Writes (42 ∷ []) (Whole (Sign Multiply))
@@ -34,7 +41,8 @@ pub data Writes : List ℕ → Piece → Type 0 where
   opening : Writes (40 ∷ []) (Whole Opening)
   closing : Writes (41 ∷ []) (Whole Closing)
 
--- whether a byte right after the piece makes a longer one of it, or another: a comment goes to the line's end, a number and a name as far as letters, digits and `_` do, and `++`, `->` and `==` are signs of their own
+-- whether a byte right after the piece makes a longer piece of it or another one: a comment goes to the line's end,
+-- a number and a name go as far as letters, digits and `_` do, and `++`, `->` and `==` are signs of their own
 abbrev pub goes_on : Piece → ℕ → Bool
 goes_on Comment b = is_in_line b
 goes_on (Whole (Number n)) b = is_word_byte b

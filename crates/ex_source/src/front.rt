@@ -1,5 +1,5 @@
 //! What stands at the front of a source.
-ghost use Rattle.std.specs.Prelude.{List, ◌≡◌, ◌==◌, ◌^◌, ◌+◌, ◌<◌, ◌≤◌, ℕ, ℤ, pos, length, take, drop, slice_index, MatchOption, IfOk, true, false, option_map};
+ghost use Rattle.std.specs.Prelude.{List, ◌≡◌, ◌==◌, ◌^◌, ◌<◌, ℕ, pos, MatchOption, IfOk, true};
 ghost use Rattle.std.specs.List.{list_all, prefix_len};
 ghost use Rattle.ex_model.specs.Tokens.{Token, Number, is_digit, is_name, is_keyword, is_word_byte, is_small_letter, is_name_byte};
 ghost use Rattle.ex_model.specs.Lexing.{Piece, Whole, is_in_line, goes_on};
@@ -13,24 +13,35 @@ use ex_model::Operator;
 use ex_value::Word;
 use std::alloc::{AllocError, Global};
 
-/// What a byte begins.
+/// What may begin.
 #[derive(Clone, Copy, Debug)]
 enum Kind {
+    /// A number, a name or a word.
     Word,
+    /// A blank.
     Blank,
+    /// A comment.
     Hash,
+    /// A newline.
     Feed,
+    /// A newline, where a LF follows.
     Return,
+    /// A `;`.
     Semicolon,
+    /// A sign.
     Mark(Mark),
+    /// Nothing that stands in a source.
     Other,
 }
 
+/// What a byte begins.
 fn kind_of(b: u8) -> Kind
     ensures { result ≡ kind_of b }
 {
+    if is_word_byte(b) {
+        return Kind::Word;
+    }
     match b {
-        b'a'..=b'z' | b'0'..=b'9' | b'_' | b'A'..=b'Z' => Kind::Word,
         b' ' | b'\t' => Kind::Blank,
         b'#' => Kind::Hash,
         b'\n' => Kind::Feed,

@@ -1,5 +1,5 @@
 //! Levels of nesting, counted over the tokens.
-ghost use Rattle.std.specs.Prelude.{◌≡◌, ◌≤◌, ◌<◌, ℕ, List, IfOk, MatchBool};
+ghost use Rattle.std.specs.Prelude.{◌≤◌, List, IfOk, MatchBool};
 ghost use Rattle.ex_model.specs.Tokens.{Token};
 ghost use Rattle.ex_model.specs.Nests.{Open, open_at, closed};
 ghost use Rattle.ex_model.specs.Reads.{NestsWithin};

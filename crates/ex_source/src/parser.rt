@@ -1,12 +1,12 @@
 //! Trees from tokens, by a stack of what is begun. Nothing here recurses.
-ghost use Rattle.std.specs.Prelude.{◌≡◌, ◌≤◌, ◌<◌, ◌+◌, ◌++◌, [], ◌∷◌, ℕ, List, length, drop, IfOk, IfSome, MatchOption, IsTrue};
+ghost use Rattle.std.specs.Prelude.{◌≡◌, ◌≤◌, ◌<◌, ◌+◌, ◌++◌, [], ◌∷◌, List, length, drop, IfOk, MatchOption, IsTrue};
 ghost use Rattle.ex_model.specs.Tokens.{Token, Name};
 ghost use Rattle.ex_model.specs.Tree.{Tree};
-ghost use Rattle.ex_model.specs.At.{IsAt, AreAt};
-ghost use Rattle.ex_model.specs.Grammar.{level, right, Top};
+ghost use Rattle.ex_model.specs.At.{IsAt};
+ghost use Rattle.ex_model.specs.Grammar.{level, Top};
 ghost use Rattle.ex_source.specs.Lexemes.{IsLexeme, AreLexemes, mark_token};
 ghost use Rattle.ex_source.specs.Machine.{Frame, State, Want, Stuck, Reaches, floor, reduce, want, have, step};
-ghost use Rattle.ex_source.specs.Shown.{IsStack, Shows, Turned, Tops, Grows, node_of, plan_for, is_over, is_bracket_top, equals_first, ReadsOne, HasTrees, IsAfter, first_at};
+ghost use Rattle.ex_source.specs.Shown.{IsStack, Shows, Turned, Tops, node_of, plan_for, is_over, is_bracket_top, equals_first, ReadsOne, HasTrees, IsAfter, first_at};
 ghost use Rattle.ex_source.specs.declared.parser.Move.TheVariants.{Wanted, Held};
 
 use crate::lexeme::{Lexeme, Mark};
@@ -28,20 +28,28 @@ enum Pending {
 /// Where the parser is: at a place of the tokens, with a node that it has read or with none.
 #[derive(Clone, Copy, Debug)]
 enum Move {
+    /// An expression is to begin at this place.
     Wanted(usize),
+    /// At this place, with the node of what was read before it.
     Held(usize, usize),
+    /// The whole expression ended at this place, and this is its node.
     Finished(usize, usize),
+    /// No expression.
     Failed,
 }
 
 /// What to do with a token after an expression.
 #[derive(Clone, Copy, Debug)]
 enum Plan {
+    /// An operator takes it as its left side.
     Shift(Operator),
+    /// A bracket is closed.
     Shut,
+    /// What was begun last is complete before the token.
     Complete,
 }
 
+/// The nodes so far, and what is begun, with the last at the end.
 #[derive(Drop)]
 struct Parser {
     nodes: Vec<Node>,
@@ -102,6 +110,7 @@ fn token_at(tokens: &[Lexeme], at: usize) -> Option<&Lexeme>
     tokens.get(at)
 }
 
+/// The level of an operator, of the loosest 0 to the tightest.
 fn level(op: Operator) -> u8
     ensures { result ≡ level op }
 {
@@ -112,6 +121,7 @@ fn level(op: Operator) -> u8
 }
 
 impl Parser {
+    /// Adds a node, and tells its place.
     fn add(&mut self, node: Node) -> Result<usize, AllocError>
         ensures { IfOk result (λ i. (i ≡ length self.old.nodes.items) × (self.new.nodes.items ≡ self.old.nodes.items ++ node ∷ []) × (self.new.stack.items ≡ self.old.stack.items)) }
     {
@@ -120,6 +130,7 @@ impl Parser {
         Ok(i)
     }
 
+    /// Puts on the stack what is begun.
     fn begin(&mut self, pending: Pending) -> Result<(), AllocError>
         ensures { IfOk result (λ _. (self.new.nodes.items ≡ self.old.nodes.items) × (self.new.stack.items ≡ self.old.stack.items ++ pending ∷ [])) }
     {
@@ -300,6 +311,7 @@ impl Parser {
         }
     }
 
+    /// Goes one step.
     fn step(&mut self, tokens: &[Lexeme], now: Move) -> Result<Move, AllocError>
         ensures { IfOk result (λ m. (all : List Token) (st : State) → AreLexemes tokens.now all → Shows self.old.nodes.items self.old.stack.items all now st → Turned self.old.nodes.items self.new.nodes.items self.new.stack.items all m (step st)) }
     {
@@ -333,6 +345,7 @@ impl Parser {
     }
 }
 
+/// Whether the expression has ended, or there is none.
 fn is_over(now: Move) -> bool
     ensures { result ≡ is_over now }
 {

@@ -1,5 +1,5 @@
 //! The tokens of a source: its pieces from the front on, with the newlines settled.
-ghost use Rattle.std.specs.Prelude.{◌≡◌, ◌++◌, ◌||◌, ℕ, List, Option, MatchOption, IfOk};
+ghost use Rattle.std.specs.Prelude.{◌≡◌, ◌++◌, ◌||◌, List, Option, MatchOption, IfOk};
 ghost use Rattle.ex_model.specs.Tokens.{Token};
 ghost use Rattle.ex_model.specs.Lexing.{Piece, Whole};
 ghost use Rattle.ex_model.specs.Newlines.{drops_after, drops_before, separators, with_newline};
