@@ -1,1 +1,10 @@
+pub mod Tree
+pub mod TreeCode
+pub mod At
+pub mod TreeAt
+pub mod Bound
+pub mod Faults
+pub mod Meaning
+pub mod Grammar
+pub mod Means
 pub mod Along

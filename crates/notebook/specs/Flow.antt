@@ -1,7 +1,7 @@
 -- Lanes of evaluation, and the cells that come before a cell in its lane.
-use Rattle.std.specs.Prelude.{ℕ, ◌==◌, ◌&&◌, Bool, true, false, if◌then◌else◌, List, [], ◌∷◌, ◌++◌, Option, Some, None, is_none, map, filter, find}
+use Rattle.std.specs.Prelude.{◌≡◌, ℕ, ◌==◌, ◌&&◌, Bool, true, false, if◌then◌else◌, List, [], ◌∷◌, ◌++◌, Option, Some, None, is_none, map, filter, find}
 use Rattle.std.specs.Option.{option_map}
-use Rattle.std.specs.List.{flat_map, list_any}
+use Rattle.std.specs.List.{flat_map, list_any, AllByRecursion}
 use Rattle.notebook.specs.declared.parts.Cell.{Cell}
 use Rattle.notebook.specs.declared.parts.Section.{Section}
 use Rattle.notebook.specs.declared.parts.Parts.{Parts}
@@ -98,3 +98,10 @@ passed c = record { cell = c.id; source = c.source }
 -- the cells of the flow, each with its present source
 abbrev pub path : Parts → ℕ → Option (List Passed)
 path n id = option_map (map passed) (flow n id)
+
+-- no section branches from another
+abbrev pub HasNoParent : Section → Type 0
+HasNoParent s = s.parent ≡ None
+
+abbrev pub IsUnbranched : Parts → Type 0
+IsUnbranched n = AllByRecursion HasNoParent n.sections

@@ -7,7 +7,7 @@ use Rattle.delta.specs.Steps.{reach_of, broken_cut}
 use Rattle.delta.specs.Moves.{text_after, over}
 use Rattle.notebook.specs.declared.parts.Cell.{Cell}
 use Rattle.notebook.specs.declared.parts.Parts.{Parts}
-use Rattle.ex_model.specs.declared.shown.Shown.{Shown}
+use Rattle.ex_model.specs.declared.ran.Shown.{Shown}
 use Rattle.ex_model.specs.Along.{IsShown}
 use Rattle.notebook.specs.declared.parts.Kind.{Kind}
 use Rattle.notebook.specs.declared.parts.Kind.TheVariants.{Setup, Code, Markdown}

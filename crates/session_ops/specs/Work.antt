@@ -2,9 +2,9 @@
 use Rattle.std.specs.Prelude.{ℕ, ◌==◌, ◌&&◌, ◌||◌, not, Bool, true, false, if◌then◌else◌, List, [], ◌∷◌, ◌++◌, length, Option, Some, None, is_some, map, filter, find, option_map, option_and_then, unwrap_or}
 use Rattle.std.specs.List.{list_any, list_all}
 use Rattle.std.specs.Str.{encode_utf8_all}
-use Rattle.ex_model.specs.declared.shown.Outcome.{Outcome}
-use Rattle.ex_model.specs.declared.shown.Outcome.TheVariants.{Value, Fault}
-use Rattle.ex_model.specs.declared.shown.Shown.{Shown}
+use Rattle.ex_model.specs.declared.ran.Outcome.{Outcome}
+use Rattle.ex_model.specs.declared.ran.Outcome.TheVariants.{Value, Fault}
+use Rattle.ex_model.specs.declared.ran.Shown.{Shown}
 use Rattle.notebook.specs.declared.parts.Cell.{Cell}
 use Rattle.notebook.specs.declared.parts.Section.{Section}
 use Rattle.notebook.specs.declared.parts.Parts.{Parts}
