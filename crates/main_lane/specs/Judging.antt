@@ -1,11 +1,12 @@
 -- What reads and marks tell, and how they change.
-use Rattle.std.specs.Prelude.{◌≡◌, ℕ, ◌==◌, ◌&&◌, ◌||◌, not, Bool, true, false, if◌then◌else◌, List, [], ◌∷◌, ◌++◌, ◌⊎◌, length, Option, Some, None, nat_eq, slice_get, suc, zero}
+use Rattle.std.specs.Prelude.{◌≡◌, ℕ, ◌==◌, ◌&&◌, ◌||◌, not, Bool, true, false, if◌then◌else◌, List, [], ◌∷◌, ◌++◌, ◌⊎◌, length, map, Option, Some, None, nat_eq, slice_get, suc, zero}
 use Rattle.std.specs.Cmp.Lexicographic.{pointwise}
 use Rattle.std.specs.List.{AllByRecursion}
 use Rattle.ex_model.specs.declared.ran.Shown.{Shown}
 use Rattle.notebook.specs.declared.parts.Cell.{Cell}
 use Rattle.notebook.specs.declared.states.Validity.{Validity}
 use Rattle.notebook.specs.declared.states.Validity.TheVariants.{Fresh, Evaluated, Stale, Aborted}
+use Rattle.notebook.specs.Rules.{cell_number}
 use Rattle.session_ops.specs.Work.{is_fault}
 use Rattle.main_lane.specs.declared.reads.Read.{Read}
 use Rattle.main_lane.specs.declared.marks.Last.{Last}
@@ -16,8 +17,7 @@ abbrev pub reread : ℕ → List ℕ → Read → Read
 reread cell source r = if r.cell == cell then record r { same = pointwise nat_eq r.source source } else r
 
 abbrev pub reread_all : ℕ → List ℕ → List Read → List Read
-reread_all cell source [] = []
-reread_all cell source (r ∷ rs) = reread cell source r ∷ reread_all cell source rs
+reread_all cell source rs = map (reread cell source) rs
 
 -- whether the read at a place, and those at all places, have their cells' present sources
 abbrev pub is_same_read : Option Read → Bool
@@ -67,8 +67,7 @@ abbrev pub new_mark : ℕ → Mark
 new_mark cell = record { cell = cell; queued = false; aborted = false; last = None }
 
 abbrev pub new_marks : List Cell → List Mark
-new_marks [] = []
-new_marks (c ∷ cs) = new_mark c.id ∷ new_marks cs
+new_marks cs = map new_mark (map cell_number cs)
 
 -- a mark after its reads were compared
 abbrev pub refreshed_last : List Read → Option Last → Option Last
@@ -79,8 +78,7 @@ abbrev pub refreshed : List Read → Mark → Mark
 refreshed rs m = record m { last = refreshed_last rs m.last }
 
 abbrev pub refreshed_all : List Read → List Mark → List Mark
-refreshed_all rs [] = []
-refreshed_all rs (m ∷ ms) = refreshed rs m ∷ refreshed_all rs ms
+refreshed_all rs ms = map (refreshed rs) ms
 
 -- a queued cell after one that failed isn't queued any more, and is marked aborted
 abbrev pub swept_mark : Bool → Mark → Mark

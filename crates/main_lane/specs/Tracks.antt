@@ -64,7 +64,7 @@ abbrev pub once_stored : Parts → Work → Evaluated → Work
 once_stored n w e = let v : Work = once_begun n w e in swept n (stored e.shown v (running_eval v e.eval))
 
 -- the cell that may start was evaluated along its path, under the next number, and what it showed was stored
-pub record HasEvaluated (n : Parts) (w : Work) (e : Evaluated) (new : MainLane) : Type 0 where
+pub record HasEvaluated (n : Parts) (w : Work) (new : MainLane) (e : Evaluated) : Type 0 where
   pub may : may_start n w Main ≡ Some e.cell
   pub eval : e.eval ≡ w.started + 1
   pub along : (p : List Passed) × ((path n e.cell ≡ Some p) × ShowsAlong p e.shown)
@@ -73,7 +73,7 @@ pub record HasEvaluated (n : Parts) (w : Work) (e : Evaluated) (new : MainLane) 
 -- the same; where no cell may start nothing was changed
 abbrev pub HasTried : Parts → Work → MainLane → Option Evaluated → Type 0
 HasTried n w new None = (may_start n w Main ≡ None) × Tracks n w new
-HasTried n w new (Some e) = HasEvaluated n w e new
+HasTried n w new (Some e) = HasEvaluated n w new e
 
 -- the cell of the mark at a place
 abbrev pub cell_of : Parts → Option Mark → Option Cell

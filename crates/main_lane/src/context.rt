@@ -1,5 +1,5 @@
 //! The bindings after a path, kept for the next start.
-ghost use Rattle.std.specs.Prelude.{◌≡◌, [], IfOk, OnOk, map};
+ghost use Rattle.std.specs.Prelude.{◌≡◌, List, [], IfOk, OnOk, map};
 ghost use Rattle.ex_model.specs.Along.{After, MeansInCell};
 ghost use Rattle.ex_model.specs.Bound.{put_all};
 ghost use Rattle.ex_model.specs.declared.ran.Ran.{Ran};

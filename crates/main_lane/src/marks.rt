@@ -1,7 +1,8 @@
 //! What is known of each cell of the lane.
-ghost use Rattle.std.specs.Prelude.{◌≡◌, ◌<◌, MatchOption, IfOk, length};
+ghost use Rattle.std.specs.Prelude.{◌≡◌, false, MatchOption, IfOk};
 ghost use Rattle.std.specs.Option.{option_copied};
 ghost use Rattle.std.specs.List.{AllByRecursion};
+ghost use Rattle.session_ops.specs.Work.{is_fault};
 ghost use Rattle.main_lane.specs.Judging.{is_evaluated_mark, is_failed_mark, is_wanted_mark, validity_of_mark, shown_of_last, new_mark, stored_mark, refreshed, refreshed_all, swept_mark, swept_marks, any_queued, has_mark, failed_until, failed_before, IsMarkAt, IsDone, IsWantedAt, path_before};
 
 use crate::reads::{Read, are_same};
