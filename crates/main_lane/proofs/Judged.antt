@@ -134,7 +134,7 @@ failed-ancestor n w cell ms h j =
     refl
 
 -- nothing is queued where no mark is
-unqueued : (n : Parts) (w : Work) (cs : List Cell) (ms : List Mark) → AreJudged n w cs ms → w.queued ≡ [] → any_queued ms ≡ false
+pub unqueued : (n : Parts) (w : Work) (cs : List Cell) (ms : List Mark) → AreJudged n w cs ms → w.queued ≡ [] → any_queued ms ≡ false
 unqueued n w [] [] j e = refl
 unqueued n w [] (m ∷ ms) j e = absurd j
 unqueued n w (c ∷ cs) [] j e = absurd j
@@ -156,7 +156,7 @@ queued-marked n w q (c ∷ cs) (m ∷ ms) j i h =
     refl
     h
 
-is_in-first : (q : ℕ) (qs : List ℕ) → is_in q (q ∷ qs) ≡ true
+pub is_in-first : (q : ℕ) (qs : List ℕ) → is_in q (q ∷ qs) ≡ true
 is_in-first q qs = let e : (q == q) ≡ true = grind (arith, nat_tests) in ap (λ b. if b then true else is_in q qs) e
 
 queue-empty : (n : Parts) (w : Work) (queue : List ℕ) (ms : List Mark) → w.queued ≡ queue → IsUnbranched n → AllByRecursion (IsOfLane n) queue → AreJudged n w (lane_cells n Main) ms → not (any_queued ms) ≡ (length queue == 0)

@@ -1,3 +1,4 @@
 pub mod Writing
 pub mod Places
 pub mod Judged
+pub mod Next
