@@ -6,3 +6,4 @@ pub mod Calls
 pub mod Sweeping
 pub mod Queueing
 pub mod Editing
+pub mod Paths

@@ -129,3 +129,7 @@ flag_first false b r e f = absurd (cc e)
 pub flag_second : (a b r : Bool) → a ≡ false → b ≡ r → b ≡ a || r
 flag_second true b r e f = absurd (cc e)
 flag_second false b r e f = f
+
+pub length-swept : (failed : Bool) (ms : List Mark) → length (swept_marks failed ms) ≡ length ms
+length-swept failed [] = refl
+length-swept failed (m ∷ ms) = ap (λ k. suc k) (length-swept (failed || is_failed_mark m) ms)
