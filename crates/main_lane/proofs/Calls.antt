@@ -21,7 +21,7 @@ use Rattle.main_lane.specs.Marks.{IsMark, AreMarks}
 use Rattle.main_lane.specs.Judging.{any_queued, failed_before, has_mark, IsMarkAt, IsWantedAt, IsPlaceOfNext, validity_of_mark, shown_of_last}
 use Rattle.main_lane.specs.Tracks.{Holds, Tracks, IsRow, IsRowBy, shown_in}
 use Rattle.main_lane.proofs.Judged.{AreJudged, all-judged, failed-ancestor, idle, marked, mark-validity, mark-shown}
-use Rattle.main_lane.proofs.Next.{FirstWanted, first-wanted, no-place, stands-at}
+use Rattle.main_lane.proofs.Next.{JudgedCut, judged-cut, FirstWanted, first-wanted, no-place, stands-at}
 
 pub holds-stand : (n : Parts) (w : Work) (rs : List Read) (ms : List Mark) (c : Context) → Holds n w rs ms c → AllStand n [] (lane_cells n Main)
 holds-stand n w rs ms c h = main-stands n h.unbranched h.distinct
@@ -42,16 +42,18 @@ pub tracks-none : (n : Parts) (w : Work) (l : MainLane) → Tracks n w l → IsP
 tracks-none n w l t p = no-place n w l.marks.items t.holds.rests t.holds.unbranched t.holds.lane (tracks-judged n w l t) p
 
 -- the first wanted mark of a lane where some cell is queued
-pub tracks-first : (n : Parts) (w : Work) (l : MainLane) (at : ℕ) (p : IsWantedAt l.marks.items at) → Tracks n w l → any_queued l.marks.items ≡ true → FirstWanted n w p.front p.mark p.back
-tracks-first n w l at p t some =
-    first-wanted n w w.queued p.front p.mark p.back refl t.holds.rests t.holds.lane t.hopeful (ap any_queued (sym p.parts) ∙ some)
-    (holds-stand n w l.reads.items l.marks.items l.context t.holds) (subst (AreJudged n w (lane_cells n Main)) p.parts (tracks-judged n w l t)) p.done p.wanted
+pub tracks-first : (n : Parts) (w : Work) (l : MainLane) (at : ℕ) (p : IsWantedAt l.marks.items at) (t : JudgedCut n w (lane_cells n Main) p.front p.mark p.back) → Tracks n w l → any_queued l.marks.items ≡ true → FirstWanted n w t.before t.cell
+tracks-first n w l at p t tr some =
+    first-wanted n w w.queued p.front p.mark p.back t refl tr.holds.rests tr.holds.lane tr.hopeful (ap any_queued (sym p.parts) ∙ some)
+    (holds-stand n w l.reads.items l.marks.items l.context tr.holds) (subst (AreJudged n w (lane_cells n Main)) p.parts (tracks-judged n w l tr)) p.done p.wanted
 
 pub tracks-next : (n : Parts) (w : Work) (l : MainLane) (at : ℕ) (m : Mark) → Tracks n w l → IsPlaceOfNext l.marks.items (Some at) → m ≡ get_or l.marks.items at m → may_start n w Main ≡ Some m.cell
-tracks-next n w l at m t (some, p) is =
-    let f : FirstWanted n w p.front p.mark p.back = tracks-first n w l at p t some in
+tracks-next n w l at m tr (some, p) is =
+    let t : JudgedCut n w (lane_cells n Main) p.front p.mark p.back =
+    judged-cut n w (lane_cells n Main) p.front p.mark p.back (subst (AreJudged n w (lane_cells n Main)) p.parts (tracks-judged n w l tr)) in
+    let f : FirstWanted n w t.before t.cell = tracks-first n w l at p t tr some in
     let here : m ≡ p.mark = is ∙ (ap (λ ms. get_or ms at m) p.parts ∙ (ap (λ k. get_or (p.front ++ p.mark ∷ p.back) k m) p.place ∙ get_or-append_seam p.front p.mark p.back m)) in
-    f.starts ∙ ap (λ k. Some k) (sym f.cut.here.number ∙ ap (λ (x : Mark). x.cell) (sym here))
+    f.starts ∙ ap (λ k. Some k) (sym t.here.number ∙ ap (λ (x : Mark). x.cell) (sym here))
 
 pub place-within : (ms : List Mark) (at : ℕ) → IsPlaceOfNext ms (Some at) → at < length ms
 place-within ms at (some, p) = rw (p.parts, p.place, length-append) (omega arith)

@@ -7,3 +7,5 @@ pub mod Sweeping
 pub mod Queueing
 pub mod Editing
 pub mod Paths
+pub mod Walking
+pub mod Ready

@@ -26,7 +26,7 @@ pub record JudgedCut (n : Parts) (w : Work) (cs : List Cell) (front : List Mark)
   pub here : Judged n w cell m
   pub later : AreJudged n w after back
 
-judged-cut : (n : Parts) (w : Work) (cs : List Cell) (front : List Mark) (m : Mark) (back : List Mark) → AreJudged n w cs (front ++ m ∷ back) → JudgedCut n w cs front m back
+pub judged-cut : (n : Parts) (w : Work) (cs : List Cell) (front : List Mark) (m : Mark) (back : List Mark) → AreJudged n w cs (front ++ m ∷ back) → JudgedCut n w cs front m back
 judged-cut n w [] [] m back j = absurd j
 judged-cut n w (c ∷ cs) [] m back j = record { before = []; cell = c; after = cs; parts = refl; earlier = tt; here = j.0; later = j.1 }
 judged-cut n w [] (x ∷ front) m back j = absurd j
@@ -167,17 +167,15 @@ stands-at n before [] c back s = subst (λ (cs : List Cell). Stands n cs c) (sym
 stands-at n before (x ∷ front) c back s = subst (λ (cs : List Cell). Stands n cs c) (append_assoc before (x ∷ []) front) (stands-at n (before ++ x ∷ []) front c back s.1)
 
 -- what is known of the first wanted cell, where some cell is queued
-pub record FirstWanted (n : Parts) (w : Work) (front : List Mark) (m : Mark) (back : List Mark) : Type 0 where
-  pub cut : JudgedCut n w (lane_cells n Main) front m back
-  pub unfailed : find (has_failed n w) (map cell_number cut.before) ≡ None
-  pub starts : may_start n w Main ≡ Some cut.cell.id
+pub record FirstWanted (n : Parts) (w : Work) (before : List Cell) (c : Cell) : Type 0 where
+  pub unfailed : find (has_failed n w) (map cell_number before) ≡ None
+  pub starts : may_start n w Main ≡ Some c.id
 
-pub first-wanted : (n : Parts) (w : Work) (queue : List ℕ) (front : List Mark) (m : Mark) (back : List Mark)
+pub first-wanted : (n : Parts) (w : Work) (queue : List ℕ) (front : List Mark) (m : Mark) (back : List Mark) (t : JudgedCut n w (lane_cells n Main) front m back)
     → w.queued ≡ queue → w.running ≡ [] → AllByRecursion (IsOfLane n) queue → AllByRecursion (IsHopeful n w) queue → any_queued (front ++ m ∷ back) ≡ true
-    → AllStand n [] (lane_cells n Main) → AreJudged n w (lane_cells n Main) (front ++ m ∷ back) → AllByRecursion IsDone front → is_wanted_mark m ≡ true → FirstWanted n w front m back
-first-wanted n w [] front m back e rests l hope some s j d wanted = absurd (cc (some, unqueued n w (lane_cells n Main) (front ++ m ∷ back) j e))
-first-wanted n w (q ∷ qs) front m back e rests l hope some s j d wanted =
-    let t : JudgedCut n w (lane_cells n Main) front m back = judged-cut n w (lane_cells n Main) front m back j in
+    → AllStand n [] (lane_cells n Main) → AreJudged n w (lane_cells n Main) (front ++ m ∷ back) → AllByRecursion IsDone front → is_wanted_mark m ≡ true → FirstWanted n w t.before t.cell
+first-wanted n w [] front m back t e rests l hope some s j d wanted = absurd (cc (some, unqueued n w (lane_cells n Main) (front ++ m ∷ back) j e))
+first-wanted n w (q ∷ qs) front m back t e rests l hope some s j d wanted =
     let line : lane_cells n Main ≡ t.before ++ t.cell ∷ t.after = t.parts in
     let queued : is_in q w.queued ≡ true = ap (is_in q) e ∙ is_in-first q qs in
     let past : has_number q t.before ≡ false = queued-later n w q t.before front t.earlier d queued in
@@ -189,7 +187,6 @@ first-wanted n w (q ∷ qs) front m back e rests l hope some s j d wanted =
     let place : Stands n t.before t.cell = stands-at n [] t.before t.cell t.after (subst (AllStand n []) line s) in
     let all : list_all (is_settled n w) (earlier n t.cell.id) ≡ true = ap (list_all (is_settled n w)) place.earlier ∙ all-settled n w t.before front rests t.earlier d unfailed in
     record {
-      cut = t;
       unfailed = unfailed;
       starts = rests-start n w rests ∙ (ap (option_and_then (settled_before n w)) finds ∙ ap (λ b. if b then Some t.cell.id else None) all);
     }
