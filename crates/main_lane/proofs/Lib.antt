@@ -9,3 +9,4 @@ pub mod Editing
 pub mod Paths
 pub mod Walking
 pub mod Ready
+pub mod Evaluating
