@@ -80,7 +80,11 @@ marks-cut w rs start [] [] m back j = absurd j
 marks-cut w rs start (c ∷ cs) [] m back j =
     let none : start ++ [] ≡ start = append-nil start in
     record {
-      before = []; cell = c; after = cs; parts = refl; earlier = tt;
+      before = [];
+      cell = c;
+      after = cs;
+      parts = refl;
+      earlier = tt;
       here = subst (λ (ds : List Cell). IsMark w rs (map passed (ds ++ c ∷ [])) c m) (sym none) j.0;
       later = subst (λ (ds : List Cell). AreMarks w rs (ds ++ c ∷ []) cs back) (sym none) j.1;
     }
@@ -89,7 +93,9 @@ marks-cut w rs start (c ∷ cs) (x ∷ front) m back j =
     let t : MarksCut w rs (start ++ c ∷ []) cs front m back = marks-cut w rs (start ++ c ∷ []) cs front m back j.1 in
     let more : (start ++ c ∷ []) ++ t.before ≡ start ++ c ∷ t.before = append_assoc start (c ∷ []) t.before in
     record {
-      before = c ∷ t.before; cell = t.cell; after = t.after;
+      before = c ∷ t.before;
+      cell = t.cell;
+      after = t.after;
       parts = ap (λ ds. c ∷ ds) t.parts;
       earlier = (j.0, t.earlier);
       here = subst (λ (ds : List Cell). IsMark w rs (map passed (ds ++ t.cell ∷ [])) t.cell m) more t.here;
@@ -104,10 +110,12 @@ marks-join w rs start [] c after [] m back e h l =
 marks-join w rs start [] c after (x ∷ front) m back e h l = absurd e
 marks-join w rs start (b ∷ before) c after [] m back e h l = absurd e
 marks-join w rs start (b ∷ before) c after (x ∷ front) m back e h l =
-    let more : start ++ b ∷ before ≡ (start ++ b ∷ []) ++ before = sym (append_assoc start (b ∷ []) before) in
-    (e.0, marks-join w rs (start ++ b ∷ []) before c after front m back e.1
-    (subst (λ (ds : List Cell). IsMark w rs (map passed (ds ++ c ∷ [])) c m) more h)
-    (subst (λ (ds : List Cell). AreMarks w rs (ds ++ c ∷ []) after back) more l))
+    let more : start ++ b ∷ before ≡ (start ++ b ∷ []) ++ before = sym (append_assoc start (b ∷ []) before) in (
+      e.0,
+      marks-join w rs (start ++ b ∷ []) before c after front m back e.1
+          (subst (λ (ds : List Cell). IsMark w rs (map passed (ds ++ c ∷ [])) c m) more h)
+          (subst (λ (ds : List Cell). AreMarks w rs (ds ++ c ∷ []) after back) more l),
+    )
 
 row-at : (n : Parts) (w : Work) (rs : List Read) (before : List Cell) (c : Cell) (m : Mark) (cell : ℕ) (r : Row) → w.running ≡ [] → Stands n before c → IsMark w rs (map passed (before ++ c ∷ [])) c m → c.id ≡ cell
     → r.status ≡ status_by false m.queued → r.validity ≡ validity_of_mark m → option_copied r.shown ≡ shown_of_last m.last → IsRow n w cell (Some r)

@@ -175,9 +175,10 @@ marks-edited n f w rs more front (c ∷ cs) (m ∷ ms) places told before live h
     last-edited n f rs more (front ++ c ∷ []) m.last (last_finished w c.id) places told next h.0.last in
     let mark : IsMark w more (map passed (resourced_cells f (front ++ c ∷ []))) (resourced_cell f c) (refreshed more m) =
     record { cell = h.0.cell; queued = h.0.queued; aborted = h.0.aborted; last = last } in
-    let rest : AreMarks w more (resourced_cells f (front ++ c ∷ [])) (resourced_cells f cs) (refreshed_all more ms) = marks-edited n f w rs more (front ++ c ∷ []) cs ms places told next live.1 h.1 in
-    (subst (λ (ds : List Cell). IsMark w more (map passed ds) (resourced_cell f c) (refreshed more m)) joined mark,
-    subst (λ (ds : List Cell). AreMarks w more ds (resourced_cells f cs) (refreshed_all more ms)) joined rest)
+    let rest : AreMarks w more (resourced_cells f (front ++ c ∷ [])) (resourced_cells f cs) (refreshed_all more ms) = marks-edited n f w rs more (front ++ c ∷ []) cs ms places told next live.1 h.1 in (
+      subst (λ (ds : List Cell). IsMark w more (map passed ds) (resourced_cell f c) (refreshed more m)) joined mark,
+      subst (λ (ds : List Cell). AreMarks w more ds (resourced_cells f cs) (refreshed_all more ms)) joined rest,
+    )
 
 holds-edited : (n : Parts) (cell : ℕ) (t : List ℕ) (d : Cell) (w : Work) (rs : List Read) (ms : List Mark) (x : Context) → found cell (cells (with_source cell t n)) ≡ Some d → Holds n w rs ms x → Holds (with_source cell t n) w (reread_all cell d.source rs) (refreshed_all (reread_all cell d.source rs) ms) x
 holds-edited n cell t d w rs ms x here h =
@@ -196,8 +197,8 @@ holds-edited n cell t d w rs ms x here h =
       started = h.started ∙ sym (length-map rs (reread cell d.source));
       told = told;
       kept =
-        subst (λ (cs : List Cell). AreMarks w (reread_all cell d.source rs) [] cs (refreshed_all (reread_all cell d.source rs) ms)) (sym line)
-        (marks-edited (with_source cell t n) f w rs (reread_all cell d.source rs) [] (lane_cells n Main) ms (λ is p k. places-reread cell d.source rs is p k) told tt live h.kept);
+          subst (λ (cs : List Cell). AreMarks w (reread_all cell d.source rs) [] cs (refreshed_all (reread_all cell d.source rs) ms)) (sym line)
+          (marks-edited (with_source cell t n) f w rs (reread_all cell d.source rs) [] (lane_cells n Main) ms (λ is p k. places-reread cell d.source rs is p k) told tt live h.kept);
       after = (h.after.0, places-reread cell d.source rs x.path.items h.after.0 h.after.1, h.after.2);
     }
 

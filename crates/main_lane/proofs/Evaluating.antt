@@ -158,9 +158,11 @@ context-next : (rs : List Read) (r : Read) (old new : Context) (o : Outcome) (is
 context-next rs r old new (Fault f) is p c ran e advanced held a means places = subst (IsContext (rs ++ r ∷ [])) (sym advanced) (context-more rs r old held)
 context-next rs r old new (Value v) is p c ran e advanced held a means places =
     let joined : map source_bytes (p ++ passed c ∷ []) ≡ map source_bytes p ++ source_bytes (passed c) ∷ [] = map-append source_bytes p (passed c ∷ []) in
-    let after : After (map source_bytes p ++ source_bytes (passed c) ∷ []) (put_all old.bindings ran.made) = and_after a means (sym e) in
-    (p ++ passed c ∷ [], subst (λ ks. ArePlaces (rs ++ r ∷ []) ks (p ++ passed c ∷ [])) (sym advanced.0) places,
-    subst (λ s. After s new.bindings) (sym joined) (subst (After (map source_bytes p ++ source_bytes (passed c) ∷ [])) (sym advanced.1) after))
+    let after : After (map source_bytes p ++ source_bytes (passed c) ∷ []) (put_all old.bindings ran.made) = and_after a means (sym e) in (
+      p ++ passed c ∷ [],
+      subst (λ ks. ArePlaces (rs ++ r ∷ []) ks (p ++ passed c ∷ [])) (sym advanced.0) places,
+      subst (λ s. After s new.bindings) (sym joined) (subst (After (map source_bytes p ++ source_bytes (passed c) ∷ [])) (sym advanced.1) after),
+    )
 
 -- all together: the marks before the sweep
 holds-evaluated : (n : Parts) (w : Work) (l : MainLane) (at : ℕ) (c : Cell) (t : Ready n w l at c) (eval : ℕ) (shown : Shown) (r : Read) (x : Context) (k : Last) → Tracks n w l → eval ≡ length (l.reads.items ++ r ∷ []) → r.cell ≡ c.id → r.source ≡ c.source → r.same ≡ true

@@ -43,14 +43,15 @@ marks-other cell w v rs front [] [] same none h = tt
 marks-other cell w v rs front [] (m ∷ ms) same none h = absurd h
 marks-other cell w v rs front (c ∷ cs) [] same none h = absurd h
 marks-other cell w v rs front (c ∷ cs) (m ∷ ms) same none h =
-    let s : SameFor w v c.id = same c.id (or_first (is_cell cell c) (has_number cell cs) none) in
-    (record {
-      cell = h.0.cell;
-      queued = h.0.queued ∙ sym s.queued;
-      aborted = h.0.aborted ∙ sym s.aborted;
-      last = subst (λ f. IsLastOf rs (map passed (front ++ c ∷ [])) m.last f) (sym s.last) h.0.last;
-    },
-    marks-other cell w v rs (front ++ c ∷ []) cs ms same (or_second (is_cell cell c) (has_number cell cs) none) h.1)
+    let s : SameFor w v c.id = same c.id (or_first (is_cell cell c) (has_number cell cs) none) in (
+      record {
+        cell = h.0.cell;
+        queued = h.0.queued ∙ sym s.queued;
+        aborted = h.0.aborted ∙ sym s.aborted;
+        last = subst (λ f. IsLastOf rs (map passed (front ++ c ∷ [])) m.last f) (sym s.last) h.0.last;
+      },
+      marks-other cell w v rs (front ++ c ∷ []) cs ms same (or_second (is_cell cell c) (has_number cell cs) none) h.1,
+    )
 
 pub marks-replaced : (n : Parts) (w v : Work) (rs : List Read) (front : List Mark) (m : Mark) (back : List Mark) (y : Mark) (cut : MarksCut w rs [] (lane_cells n Main) front m back) → AreApart (lane_cells n Main) → SameBut cut.cell.id w v → IsMark v rs (map passed (cut.before ++ cut.cell ∷ [])) cut.cell y → AreMarks v rs [] (lane_cells n Main) (front ++ y ∷ back)
 marks-replaced n w v rs front m back y cut apart same here =
@@ -170,8 +171,8 @@ tracks-new n l rules h reads marks path bindings = record {
     started = sym (ap length reads);
     told = rw reads tt;
     kept =
-      subst (λ ms. AreMarks no_work l.reads.items [] (lane_cells n Main) ms) (sym marks)
-      (subst (λ cs. AreMarks no_work l.reads.items [] (lane_cells n Main) (new_marks cs)) (main-line n h) (marks-new l.reads.items [] (lane_cells n Main)));
+        subst (λ ms. AreMarks no_work l.reads.items [] (lane_cells n Main) ms) (sym marks)
+        (subst (λ cs. AreMarks no_work l.reads.items [] (lane_cells n Main) (new_marks cs)) (main-line n h) (marks-new l.reads.items [] (lane_cells n Main)));
     after = ([], subst (λ is. ArePlaces l.reads.items is []) (sym path) tt, subst (After []) (sym bindings) at_start);
   };
   hopeful = tt;

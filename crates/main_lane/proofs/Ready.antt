@@ -5,6 +5,8 @@ use Rattle.std.specs.Cmp.Lexicographic.{pointwise, same_text}
 use Rattle.std.specs.List.{AllByRecursion}
 use Rattle.std.proofs.lemmas.Bool.Decides.{nat_tests}
 use Rattle.std.proofs.lemmas.List.{append-nil}
+use Rattle.std.proofs.lemmas.Option.{slice_get_read}
+use Rattle.std.proofs.Math.Seq.{get_or-append_seam}
 use Rattle.ex_value.specs.declared.Value.{Value}
 use Rattle.ex_model.specs.declared.ran.Shown.{Shown}
 use Rattle.ex_model.specs.declared.ran.Outcome.{Outcome}
@@ -137,12 +139,13 @@ all-sound : (n : Parts) (w : Work) (cs : List Cell) (ms : List Mark) → AreJudg
 all-sound n w [] [] j d f = tt
 all-sound n w [] (m ∷ ms) j d f = absurd j
 all-sound n w (c ∷ cs) [] j d f = absurd j
-all-sound n w (c ∷ cs) (m ∷ ms) j d f =
-    (record {
-      evaluated = not-true (is_evaluated_mark m) (or_second m.queued (not (is_evaluated_mark m)) d.0);
-      unfailed = j.0.failed ∙ find-first (has_failed n w) c.id (map cell_number cs) f;
-    },
-    all-sound n w cs ms j.1 d.1 (find-rest (has_failed n w) c.id (map cell_number cs) f))
+all-sound n w (c ∷ cs) (m ∷ ms) j d f = (
+  record {
+    evaluated = not-true (is_evaluated_mark m) (or_second m.queued (not (is_evaluated_mark m)) d.0);
+    unfailed = j.0.failed ∙ find-first (has_failed n w) c.id (map cell_number cs) f;
+  },
+  all-sound n w cs ms j.1 d.1 (find-rest (has_failed n w) c.id (map cell_number cs) f),
+)
 
 -- parts of a lane whose cells stand one after the other
 stand-front : (n : Parts) (start xs ys : List Cell) → AllStand n start (xs ++ ys) → AllStand n start xs
@@ -221,3 +224,21 @@ ready n w l at c tr ((some, p), here) =
     let both : Some c ≡ Some cut.cell = sym here ∙ (ap (cell_of n) there ∙ (ap (λ k. found k (cells n)) cut.here.cell ∙ r.stands.live)) in
     let same : cut.cell ≡ c = cc both in
     subst (Ready n w l at) same r
+
+-- the mark at the next place has a live cell
+pub next-found : (n : Parts) (w : Work) (l : MainLane) (at : ℕ) (m : Mark) → Tracks n w l → IsPlaceOfNext l.marks.items (Some at) → m ≡ get_or l.marks.items at m → found m.cell (cells n) ≡ None → ⊥
+next-found n w l at m tr (some, p) is none =
+    let cut : MarksCut w l.reads.items [] (lane_cells n Main) p.front p.mark p.back =
+    marks-cut w l.reads.items [] (lane_cells n Main) p.front p.mark p.back (subst (AreMarks w l.reads.items [] (lane_cells n Main)) p.parts tr.holds.kept) in
+    let r : Ready n w l at cut.cell = ready-cut n w l at p cut tr some in
+    let here : m ≡ p.mark = is ∙ (ap (λ ms. get_or ms at m) p.parts ∙ (ap (λ k. get_or (p.front ++ p.mark ∷ p.back) k m) p.place ∙ get_or-append_seam p.front p.mark p.back m)) in
+    let live : found m.cell (cells n) ≡ Some cut.cell = ap (λ (x : Mark). found x.cell (cells n)) here ∙ (ap (λ k. found k (cells n)) cut.here.cell ∙ r.stands.live) in
+    cc (none, live)
+
+pub next-at : (n : Parts) (l : MainLane) (at : ℕ) (m : Mark) (c : Cell) → IsPlaceOfNext l.marks.items (Some at) → at < length l.marks.items → m ≡ get_or l.marks.items at m → found m.cell (cells n) ≡ Some c → IsNext n l.marks.items at c
+next-at n l at m c next within is live =
+    (next, ap (cell_of n) (slice_get_read l.marks.items (length l.marks.items) at m refl within is) ∙ live)
+
+pub ready-mark : (n : Parts) (w : Work) (l : MainLane) (at : ℕ) (c : Cell) (m : Mark) (t : Ready n w l at c) → m ≡ get_or l.marks.items at m → m ≡ t.mark
+ready-mark n w l at c m t is =
+    is ∙ (ap (λ ms. get_or ms at m) t.parts ∙ (ap (λ k. get_or (t.front ++ t.mark ∷ t.back) k m) t.place ∙ get_or-append_seam t.front t.mark t.back m))

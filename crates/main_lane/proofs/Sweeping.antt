@@ -21,7 +21,8 @@ use Rattle.main_lane.specs.declared.marks.Mark.{Mark}
 use Rattle.main_lane.specs.declared.context.Context.{Context}
 use Rattle.main_lane.specs.Marks.{IsLastOf, IsMark, AreMarks}
 use Rattle.main_lane.specs.Judging.{is_failed_mark, swept_mark, swept_marks}
-use Rattle.main_lane.specs.Tracks.{Holds, IsOfLane, IsHopeful}
+use Rattle.main_lane.specs.declared.lane.MainLane.{MainLane}
+use Rattle.main_lane.specs.Tracks.{Holds, Tracks, IsOfLane, IsHopeful}
 use Rattle.main_lane.proofs.Judged.{Judged, judged}
 use Rattle.main_lane.proofs.Calls.{holds-stand}
 
@@ -118,10 +119,10 @@ one-swept n w rs front c m failed f s h =
       cell = swept-cell (failed && m.queued) m ∙ h.cell;
       queued = swept-queued failed (is_in c.id w.queued) m h.queued ∙ (ap (λ b. is_in c.id w.queued && not b) hopeless ∙ sym (is_in-filter (is_hopeful n w) c.id w.queued));
       aborted =
-        swept-aborted failed (is_in c.id w.queued) m h.queued
-        ∙ (ap (λ b. b || (is_in c.id w.queued && failed)) h.aborted
-        ∙ (ap (λ b. is_in c.id w.aborted || (is_in c.id w.queued && b)) hopeless
-        ∙ sym (is_in-append c.id w.aborted (filter (is_hopeless n w) w.queued) ∙ ap (λ b. is_in c.id w.aborted || b) (is_in-filter (is_hopeless n w) c.id w.queued))));
+          swept-aborted failed (is_in c.id w.queued) m h.queued
+          ∙ (ap (λ b. b || (is_in c.id w.queued && failed)) h.aborted
+          ∙ (ap (λ b. is_in c.id w.aborted || (is_in c.id w.queued && b)) hopeless
+          ∙ sym (is_in-append c.id w.aborted (filter (is_hopeless n w) w.queued) ∙ ap (λ b. is_in c.id w.aborted || b) (is_in-filter (is_hopeless n w) c.id w.queued))));
       last = subst (λ l. IsLastOf rs (map passed (front ++ c ∷ [])) l (last_finished w c.id)) (swept-last (failed && m.queued) m) h.last;
     }
 
@@ -146,9 +147,10 @@ marks-swept : (n : Parts) (w : Work) (rs : List Read) (front cs : List Cell) (ms
 marks-swept n w rs front [] [] failed f s h = tt
 marks-swept n w rs front [] (m ∷ ms) failed f s h = absurd h
 marks-swept n w rs front (c ∷ cs) [] failed f s h = absurd h
-marks-swept n w rs front (c ∷ cs) (m ∷ ms) failed f s h =
-    (one-swept n w rs front c m failed f s.0 h.0,
-    marks-swept n w rs (front ++ c ∷ []) cs ms (failed || is_failed_mark m) (more-failed n w front c m failed f (judged n w rs front c m s.0 h.0)) s.1 h.1)
+marks-swept n w rs front (c ∷ cs) (m ∷ ms) failed f s h = (
+  one-swept n w rs front c m failed f s.0 h.0,
+  marks-swept n w rs (front ++ c ∷ []) cs ms (failed || is_failed_mark m) (more-failed n w front c m failed f (judged n w rs front c m s.0 h.0)) s.1 h.1,
+)
 
 -- a cell that isn't failed isn't after the sweep
 still-unfailed : (n : Parts) (w : Work) (present : Option (List Passed)) (x : ℕ) → (has_path w x present && shows_fault (last_finished w x)) ≡ false → (has_path (swept n w) x present && shows_fault (last_finished (swept n w) x)) ≡ false
@@ -234,3 +236,7 @@ marks-unswept n w rs front (c ∷ cs) (m ∷ ms) failed hope f s h =
 
 pub holds-unswept : (n : Parts) (w : Work) (rs : List Read) (ms : List Mark) (x : Context) → Holds n w rs ms x → AllByRecursion (IsHopeful n w) w.queued → swept_marks false ms ≡ ms
 holds-unswept n w rs ms x h hope = marks-unswept n w rs [] (lane_cells n Main) ms false hope refl (holds-stand n w rs ms x h) h.kept
+
+-- a sweep after what changed nothing changes nothing
+pub same_work : (n : Parts) (w : Work) (l : MainLane) → Tracks n w l → Tracks n (swept n w) l
+same_work n w l t = subst (λ v. Tracks n v l) (sym (unswept n w t.hopeful)) t
