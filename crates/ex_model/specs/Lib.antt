@@ -5,6 +5,11 @@ pub mod TreeAt
 pub mod Bound
 pub mod Faults
 pub mod Meaning
-pub mod Grammar
 pub mod Means
 pub mod Along
+pub mod Tokens
+pub mod Lexing
+pub mod Newlines
+pub mod Grammar
+pub mod Nests
+pub mod Reads

@@ -6,8 +6,8 @@ use Rattle.ex_model.specs.declared.fault.Fault.TheVariants.{SourceTooLong, Unbui
 use Rattle.ex_model.specs.declared.ran.Outcome.TheVariants as Outcomes
 use Rattle.ex_model.specs.declared.ran.Ran.{Ran}
 use Rattle.ex_model.specs.Tree.{Tree}
+use Rattle.ex_model.specs.Reads.{Reads}
 use Rattle.ex_model.specs.Meaning.{meaning}
-use Rattle.ex_model.specs.Grammar.{Reads}
 
 -- a cell that ends by a fault before its first step
 abbrev pub not_begun : Fault → Ran

@@ -56,6 +56,7 @@ impl Model for Ast {
 }
 
 /// The nodes of a body, and the places of its expressions among them.
+#[derive(Clone, Copy, Debug)]
 pub struct Parts<'a> {
     pub nodes: &'a [Node],
     pub roots: &'a [usize],

@@ -5,7 +5,7 @@
 //! order of words count bytes. Nothing here changes a value after it is made.
 #![tactic(auto)]
 
-ghost use Rattle.std.specs.Prelude.{◌≡◌, ◌↔◌, IsTrue, IfOk};
+ghost use Rattle.std.specs.Prelude.{◌≡◌, ◌≤◌, ◌^◌, ◌↔◌, IsTrue, IfOk};
 ghost use Rattle.std.specs.Fmt.{signed_decimal};
 ghost use Rattle.ex_value.specs.Values.{nil, size_of, order_of, inspected, atom_inspected, is_value_word, displayed};
 
@@ -110,7 +110,8 @@ impl Value {
     /// The size in units, by which evaluations are charged and limited: 1 for an integer, and for an
     /// atom 1 and a unit for each 16 bytes. Takes no memory.
     pub fn size(&self) -> u64
-        ensures { result ≡ size_of self.now }
+        ensures size { result ≡ size_of self.now }
+        ensures small { result ≤ 2 ^ 60 }
     {
         match self {
             Value::Int(_) => 1,
@@ -166,3 +167,6 @@ fn is_value_word(text: &str) -> bool
 {
     text == "nil" || text == "true" || text == "false"
 }
+
+#[cfg(test)]
+mod tests;

@@ -9,7 +9,8 @@ use Rattle.ex_model.specs.declared.ran.Shown.{Shown}
 use Rattle.ex_model.specs.declared.ran.Outcome.TheVariants as Outcomes
 use Rattle.ex_model.specs.Bound.{put_all}
 use Rattle.ex_model.specs.Along.{MeansInCell, After, at_start, and_after, IsShown, is_last}
-use Rattle.ex_machine.proofs.Unique.{means-unique}
+use Rattle.ex_model.proofs.Once.{one_meaning, one_after}
+use Rattle.ex_source.proofs.Readings.{one_reading}
 
 -- lists that end by one element
 snoc-cut : {X : Type 0} (xs ys : List X) (x y : X) → xs ++ x ∷ [] ≡ ys ++ y ∷ [] → (xs ≡ ys) × (x ≡ y)
@@ -55,18 +56,9 @@ last-by all bs sources source e (and_after {sources = old} {base = base} {source
 pub last-ran : (sources : List (List ℕ)) (source : List ℕ) (bs : List Binding) → After (sources ++ source ∷ []) bs → LastRan sources source bs
 last-ran sources source bs a = last-by (sources ++ source ∷ []) bs sources source refl a
 
-none-after : (all : List (List ℕ)) (bs : List Binding) → all ≡ [] → After all bs → bs ≡ []
-none-after all bs e at_start = refl
-none-after all bs e (and_after {sources = old} {source = x} before means gives) = absurd (not-snoc old x (sym e))
-
 -- there is one list of bindings after a path
 pub after-unique : (all : List (List ℕ)) (a b : List Binding) → After all a → After all b → a ≡ b
-after-unique all a b at_start other = sym (none-after [] b refl other)
-after-unique all a b (and_after {sources = old} {base = base} {source = x} {ran = ran} {value = v} before means gives) other =
-    let t : LastRan old x b = last-ran old x b other in
-    let same : base ≡ t.base = after-unique old base t.base before t.before in
-    let one : ran ≡ t.ran = means-unique x base 200000 ran t.ran means (subst (λ bs. MeansInCell x bs t.ran) (sym same) t.means) in
-    ap (λ bs. put_all bs ran.made) same ∙ (ap (λ (r : Ran). put_all t.base r.made) one ∙ sym t.bindings)
+after-unique all a b first other = one_after one_reading first other refl
 
 short : {X : Type 0} (xs : List X) (z : X) (ys : List X) → [] ≡ xs ++ z ∷ ys → ⊥
 short [] z ys e = cc e
@@ -98,7 +90,7 @@ pub after-one : (sources : List (List ℕ)) (source : List ℕ) (base all : List
 after-one sources source base all ran a whole means =
     let t : LastRan sources source all = last-ran sources source all whole in
     let same : base ≡ t.base = after-unique sources base t.base a t.before in
-    let one : ran ≡ t.ran = means-unique source base 200000 ran t.ran means (subst (λ bs. MeansInCell source bs t.ran) (sym same) t.means) in
+    let one : ran ≡ t.ran = one_meaning one_reading means (subst (λ bs. MeansInCell source bs t.ran) (sym same) t.means) in
     and_after a means (ap (λ (r : Ran). r.shown.outcome) one ∙ t.gives)
 
 -- what is shown without a fault leaves bindings after the path

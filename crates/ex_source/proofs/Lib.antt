@@ -1,0 +1,12 @@
+pub mod Words
+pub mod Fronts
+pub mod Pieces
+pub mod Settling
+pub mod Complete
+pub mod Sound
+pub mod Laws
+pub mod Bodies
+pub mod Depths
+pub mod Stacks
+pub mod Going
+pub mod Readings
