@@ -37,20 +37,7 @@ use Rattle.main_lane.proofs.Sweeping.{is_in-filter, unswept, all-filter, holds-s
 use Rattle.main_lane.proofs.Queueing.{SameFor, SameBut, marks-replaced, all-more}
 use Rattle.main_lane.proofs.Calls.{MarksCut}
 use Rattle.main_lane.proofs.Ready.{Ready, text-self, path-self}
-
-equal-self : (n : ℕ) → (n == n) ≡ true
-equal-self n = grind (arith, nat_tests)
-
-not-equal : (a b : ℕ) → (a == b) ≡ false → (b == a) ≡ false
-not-equal a b e = grind (arith, nat_tests, e)
-
-and-true : (b : Bool) → (b && true) ≡ b
-and-true true = refl
-and-true false = refl
-
-and-false : (b : Bool) → (b && false) ≡ false
-and-false true = refl
-and-false false = refl
+use Rattle.main_lane.proofs.Small.{and-true, and-false, equal-self, not-equal}
 
 -- a number taken out of a set
 without-own : (cell : ℕ) (ks : List ℕ) → is_in cell (without_number cell ks) ≡ false

@@ -21,10 +21,7 @@ use Rattle.main_lane.specs.declared.marks.Mark.{Mark}
 use Rattle.main_lane.specs.Marks.{IsLast, IsLastOf, IsMark, AreMarks}
 use Rattle.main_lane.specs.Judging.{is_current, ends_in_fault, is_evaluated_mark, is_failed_mark, is_wanted_mark, validity_of_last, validity_of_mark, shown_of_last, any_queued, has_mark, failed_until, failed_before, IsDone, IsWantedAt, IsPlaceOfNext}
 use Rattle.main_lane.specs.Tracks.{Holds, IsOfLane, IsHopeful, shown_in}
-
-and-true : (b : Bool) → (b && true) ≡ b
-and-true true = refl
-and-true false = refl
+use Rattle.main_lane.proofs.Small.{and-true}
 
 -- what a kept evaluation tells
 last-validity : (rs : List Read) (present : List Passed) (l : Option Last) (f : Option Finished) → IsLastOf rs present l f → validity_of_last l ≡ validity_by_path (option_map path_read f) present

@@ -1,3 +1,4 @@
+pub mod Small
 pub mod Writing
 pub mod Places
 pub mod Judged

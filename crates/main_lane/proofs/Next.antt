@@ -15,6 +15,7 @@ use Rattle.main_lane.specs.declared.marks.Mark.{Mark}
 use Rattle.main_lane.specs.Judging.{is_evaluated_mark, is_failed_mark, is_wanted_mark, any_queued, IsDone, IsWantedAt, IsPlaceOfNext}
 use Rattle.main_lane.specs.Tracks.{IsOfLane, IsHopeful}
 use Rattle.main_lane.proofs.Judged.{Judged, AreJudged, unqueued, queued-marked, is_in-first}
+use Rattle.main_lane.proofs.Small.{and-true, and-false, not-true, find-first, find-rest}
 
 -- the cells of the marks before a place, the cell there, and those after it
 pub record JudgedCut (n : Parts) (w : Work) (cs : List Cell) (front : List Mark) (m : Mark) (back : List Mark) : Type 0 where
@@ -34,14 +35,6 @@ judged-cut n w (c ∷ cs) (x ∷ front) m back j =
     let t : JudgedCut n w cs front m back = judged-cut n w cs front m back j.1 in
     record { before = c ∷ t.before; cell = t.cell; after = t.after; parts = ap (λ ds. c ∷ ds) t.parts; earlier = (j.0, t.earlier); here = t.here; later = t.later }
 
-and-true : (b : Bool) → (b && true) ≡ b
-and-true true = refl
-and-true false = refl
-
-and-false : (b : Bool) → (b && false) ≡ false
-and-false true = refl
-and-false false = refl
-
 -- where nothing is queued, nothing is due
 none-due : (n : Parts) (w : Work) (cell : ℕ) → w.queued ≡ [] → is_due n w cell ≡ false
 none-due n w cell e =
@@ -59,9 +52,6 @@ nothing-starts n w rests e =
     rests-start n w rests ∙ ap (option_and_then (settled_before n w)) (find-none (is_due n w) (map cell_number (lane_cells n Main)) (λ x. none-due n w x e))
 
 -- a done cell is neither queued nor due
-not-true : (b : Bool) → not b ≡ false → b ≡ true
-not-true true e = refl
-not-true false e = absurd (cc e)
 
 done-queued : (n : Parts) (w : Work) (c : Cell) (m : Mark) → Judged n w c m → IsDone m → is_in c.id w.queued ≡ false
 done-queued n w c m j d = sym j.queued ∙ or_first m.queued (not (is_evaluated_mark m)) d
@@ -126,12 +116,6 @@ find-past p (x ∷ xs) ys e =
     as (λ b. cond b (Some x) (find p (xs ++ ys)) ≡ None → cond b (Some x) (find p xs) ≡ None)
     [ true ↦ λ h. absurd (cc h) | false ↦ λ h. find-past p xs ys h ]
     e
-
-find-first : {X : Type 0} (p : X → Bool) (x : X) (xs : List X) → find p (x ∷ xs) ≡ None → p x ≡ false
-find-first p x xs e = elim (p x) as (λ b. cond b (Some x) (find p xs) ≡ None → b ≡ false) [ true ↦ λ h. absurd (cc h) | false ↦ λ h. refl ] e
-
-find-rest : {X : Type 0} (p : X → Bool) (x : X) (xs : List X) → find p (x ∷ xs) ≡ None → find p xs ≡ None
-find-rest p x xs e = elim (p x) as (λ b. cond b (Some x) (find p xs) ≡ None → find p xs ≡ None) [ true ↦ λ h. absurd (cc h) | false ↦ λ h. h ] e
 
 no-fault : (a b : Bool) → a ≡ true → (a && b) ≡ false → b ≡ false
 no-fault true b e h = h

@@ -27,6 +27,7 @@ use Rattle.main_lane.specs.Tracks.{Holds, Tracks, IsOfLane, IsHopeful}
 use Rattle.main_lane.proofs.Judged.{marked}
 use Rattle.main_lane.proofs.Calls.{MarksCut, marks-cut, marks-join, mark-here, tracks-judged}
 use Rattle.main_lane.proofs.Sweeping.{is_in-append, unswept}
+use Rattle.main_lane.proofs.Small.{or-false, equal-self, not-equal}
 
 -- two works say the same of a number
 pub record SameFor (w v : Work) (k : ℕ) : Type 0 where
@@ -63,15 +64,6 @@ marks-replaced n w v rs front m back y cut apart same here =
     (marks-other cut.cell.id w v rs (cut.before ++ cut.cell ∷ []) cut.after back same (apart-back cut.before cut.after cut.cell a) cut.later))
 
 -- a number put into a set
-equal-self : (n : ℕ) → (n == n) ≡ true
-equal-self n = grind (arith, nat_tests)
-
-not-equal : (a b : ℕ) → (a == b) ≡ false → (b == a) ≡ false
-not-equal a b e = grind (arith, nat_tests, e)
-
-or-false : (b : Bool) → (b || false) ≡ b
-or-false true = refl
-or-false false = refl
 
 with-other : (cell k : ℕ) (qs : List ℕ) → (k == cell) ≡ false → is_in k (with_number cell qs) ≡ is_in k qs
 with-other cell k qs other =

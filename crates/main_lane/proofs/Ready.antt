@@ -35,15 +35,9 @@ use Rattle.main_lane.proofs.Judged.{Judged, AreJudged, judged, all-judged}
 use Rattle.main_lane.proofs.Next.{JudgedCut, FirstWanted, stands-at}
 use Rattle.main_lane.proofs.Calls.{MarksCut, marks-cut, holds-stand, tracks-first}
 use Rattle.main_lane.proofs.Paths.{shown-after}
+use Rattle.main_lane.proofs.Small.{and_first, and_second, not-true, equal-self, find-first, find-rest}
 
 -- equal paths, by the test
-and_first : (a b : Bool) → (a && b) ≡ true → a ≡ true
-and_first true b e = refl
-and_first false b e = e
-
-and_second : (a b : Bool) → (a && b) ≡ true → b ≡ true
-and_second true b e = e
-and_second false b e = absurd (cc e)
 
 pub paths-equal : (p q : List Passed) → same_path p q ≡ true → p ≡ q
 paths-equal [] [] e = refl
@@ -55,9 +49,6 @@ paths-equal (x ∷ p) (y ∷ q) e =
     let source : x.source ≡ y.source = same_text x.source y.source (sym (and_second (x.cell == y.cell) (pointwise nat_eq x.source y.source) here)) in
     let first : x ≡ y = ap (λ k. record x { cell = k }) number ∙ ap (λ s. record y { source = s }) source in
     ap (λ z. z ∷ p) first ∙ ap (λ zs. y ∷ zs) (paths-equal p q (and_second (same_passed x y) (same_path p q) e))
-
-equal-self : (n : ℕ) → (n == n) ≡ true
-equal-self n = grind (arith, nat_tests)
 
 pub text-self : (s : List ℕ) → pointwise nat_eq s s ≡ true
 text-self [] = refl
@@ -125,15 +116,6 @@ path-front [] rest = refl
 path-front (f ∷ fs) rest = path-after f fs rest
 
 -- the cells before the one that may start are evaluated without faults
-not-true : (b : Bool) → not b ≡ false → b ≡ true
-not-true true e = refl
-not-true false e = absurd (cc e)
-
-find-first : {X : Type 0} (p : X → Bool) (x : X) (xs : List X) → find p (x ∷ xs) ≡ None → p x ≡ false
-find-first p x xs e = elim (p x) as (λ b. cond b (Some x) (find p xs) ≡ None → b ≡ false) [ true ↦ λ h. absurd (cc h) | false ↦ λ h. refl ] e
-
-find-rest : {X : Type 0} (p : X → Bool) (x : X) (xs : List X) → find p (x ∷ xs) ≡ None → find p xs ≡ None
-find-rest p x xs e = elim (p x) as (λ b. cond b (Some x) (find p xs) ≡ None → find p xs ≡ None) [ true ↦ λ h. absurd (cc h) | false ↦ λ h. h ] e
 
 all-sound : (n : Parts) (w : Work) (cs : List Cell) (ms : List Mark) → AreJudged n w cs ms → AllByRecursion IsDone ms → find (has_failed n w) (map cell_number cs) ≡ None → AllByRecursion IsSound ms
 all-sound n w [] [] j d f = tt

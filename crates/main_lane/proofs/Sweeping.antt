@@ -25,6 +25,7 @@ use Rattle.main_lane.specs.declared.lane.MainLane.{MainLane}
 use Rattle.main_lane.specs.Tracks.{Holds, Tracks, IsOfLane, IsHopeful}
 use Rattle.main_lane.proofs.Judged.{Judged, judged}
 use Rattle.main_lane.proofs.Calls.{holds-stand}
+use Rattle.main_lane.proofs.Small.{and-false, or-true, or-false}
 
 -- where no queued cell is without hope, a sweep changes nothing
 kept-hopeful : (n : Parts) (w : Work) (qs : List ℕ) → AllByRecursion (IsHopeful n w) qs → filter (is_hopeful n w) qs ≡ qs
@@ -47,22 +48,6 @@ pub is_in-append : (k : ℕ) (xs ys : List ℕ) → is_in k (xs ++ ys) ≡ (is_i
 is_in-append k [] ys = refl
 is_in-append k (x ∷ xs) ys =
     elim (x == k) as (λ b. (if b then true else is_in k (xs ++ ys)) ≡ ((if b then true else is_in k xs) || is_in k ys)) [ true ↦ refl | false ↦ is_in-append k xs ys ]
-
-and-true : (b : Bool) → (b && true) ≡ b
-and-true true = refl
-and-true false = refl
-
-and-false : (b : Bool) → (b && false) ≡ false
-and-false true = refl
-and-false false = refl
-
-or-true : (b : Bool) → (b || true) ≡ true
-or-true true = refl
-or-true false = refl
-
-or-false : (b : Bool) → (b || false) ≡ b
-or-false true = refl
-or-false false = refl
 
 pub is_in-filter : (p : ℕ → Bool) (k : ℕ) (xs : List ℕ) → is_in k (filter p xs) ≡ (is_in k xs && p k)
 is_in-filter p k [] = refl

@@ -41,6 +41,7 @@ pub struct Evaluated {
 
 /// What is known of one cell of the lane. `shown` is what its last evaluation showed, also where that
 /// isn't valid any more.
+#[derive(Clone, Copy, Debug)]
 pub struct Row<'a> {
     pub status: Status,
     pub validity: Validity,

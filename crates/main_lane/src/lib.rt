@@ -10,5 +10,7 @@ mod context;
 mod lane;
 mod marks;
 mod reads;
+#[cfg(test)]
+mod tests;
 
 pub use lane::{Evaluated, MainLane, Row};
