@@ -20,7 +20,8 @@ use Rattle.main_lane.specs.declared.marks.Last.{Last}
 use Rattle.main_lane.specs.declared.marks.Mark.{Mark}
 use Rattle.main_lane.specs.Marks.{IsLast, IsLastOf, IsMark, AreMarks}
 use Rattle.main_lane.specs.Judging.{is_current, ends_in_fault, is_evaluated_mark, is_failed_mark, is_wanted_mark, validity_of_last, validity_of_mark, shown_of_last, any_queued, has_mark, failed_until, failed_before, IsDone, IsWantedAt, IsPlaceOfNext}
-use Rattle.main_lane.specs.Tracks.{Holds, IsOfLane, IsHopeful, shown_in}
+use Rattle.main_lane.specs.Tracks.{shown_in}
+use Rattle.main_lane.proofs.Holding.{Holds, IsOfLane, IsHopeful}
 use Rattle.main_lane.proofs.Small.{and-true}
 
 -- what a kept evaluation tells

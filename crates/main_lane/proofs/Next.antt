@@ -13,7 +13,7 @@ use Rattle.session_ops.specs.Work.{Work, Running, is_in, before, earlier, last_f
 use Rattle.session_ops.proofs.MainFlow.{has_number, or_first, or_second, or_true, Stands, AllStand, in-lane, flow-of, earlier-of, up_to-past, before-past, is_cell-own}
 use Rattle.main_lane.specs.declared.marks.Mark.{Mark}
 use Rattle.main_lane.specs.Judging.{is_evaluated_mark, is_failed_mark, is_wanted_mark, any_queued, IsDone, IsWantedAt, IsPlaceOfNext}
-use Rattle.main_lane.specs.Tracks.{IsOfLane, IsHopeful}
+use Rattle.main_lane.proofs.Holding.{Holds, IsOfLane, IsHopeful}
 use Rattle.main_lane.proofs.Judged.{Judged, AreJudged, unqueued, queued-marked, is_in-first}
 use Rattle.main_lane.proofs.Small.{and-true, and-false, not-true, find-first, find-rest}
 
@@ -52,7 +52,6 @@ nothing-starts n w rests e =
     rests-start n w rests ∙ ap (option_and_then (settled_before n w)) (find-none (is_due n w) (map cell_number (lane_cells n Main)) (λ x. none-due n w x e))
 
 -- a done cell is neither queued nor due
-
 done-queued : (n : Parts) (w : Work) (c : Cell) (m : Mark) → Judged n w c m → IsDone m → is_in c.id w.queued ≡ false
 done-queued n w c m j d = sym j.queued ∙ or_first m.queued (not (is_evaluated_mark m)) d
 

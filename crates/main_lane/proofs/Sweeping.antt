@@ -22,7 +22,8 @@ use Rattle.main_lane.specs.declared.context.Context.{Context}
 use Rattle.main_lane.specs.Marks.{IsLastOf, IsMark, AreMarks}
 use Rattle.main_lane.specs.Judging.{is_failed_mark, swept_mark, swept_marks}
 use Rattle.main_lane.specs.declared.lane.MainLane.{MainLane}
-use Rattle.main_lane.specs.Tracks.{Holds, Tracks, IsOfLane, IsHopeful}
+use Rattle.main_lane.specs.Tracks.{Tracks}
+use Rattle.main_lane.proofs.Holding.{Holds, IsOfLane, IsHopeful, holds_of, hope_of, tracks_from}
 use Rattle.main_lane.proofs.Judged.{Judged, judged}
 use Rattle.main_lane.proofs.Calls.{holds-stand}
 use Rattle.main_lane.proofs.Small.{and-false, or-true, or-false}
@@ -224,4 +225,4 @@ holds-unswept n w rs ms x h hope = marks-unswept n w rs [] (lane_cells n Main) m
 
 -- a sweep after what changed nothing changes nothing
 pub same_work : (n : Parts) (w : Work) (l : MainLane) → Tracks n w l → Tracks n (swept n w) l
-same_work n w l t = subst (λ v. Tracks n v l) (sym (unswept n w t.hopeful)) t
+same_work n w l t = subst (λ v. Tracks n v l) (sym (unswept n w (hope_of n w l t))) t

@@ -24,7 +24,7 @@ returns c = λ n w tr next.
     let places : ArePlaces c.deref-2.result.now c.deref-3.result.now (map passed t.before) =
     subst (λ rs. ArePlaces rs c.deref-3.result.now (map passed t.before)) (sym c.deref-2.ensures.value) (subst (λ is. ArePlaces c.args.self.now.reads.items is (map passed t.before)) (sym (c.deref-3.ensures.value ∙ kept)) t.places) in
     let moved : After (map source_bytes (map passed t.before)) c.move_to.new.self.bindings × IsContext c.deref-2.result.now c.move_to.new.self =
-    c.in_ok-move_to.ensures (map passed t.before) (subst (λ rs. IsContext rs c.args.self.now.context) (sym c.deref-2.ensures.value) tr.holds.after) places t.has in
+    c.in_ok-move_to.ensures (map passed t.before) (subst (λ rs. IsContext rs c.args.self.now.context) (sym c.deref-2.ensures.value) tr.context) places t.has in
     let means : MeansInCell (source_bytes (passed c.args.cell.now)) c.move_to.new.self.bindings c.in_ok-ran.ran = subst (λ s. MeansInCell s c.move_to.new.self.bindings c.in_ok-ran.ran) c.as_str.ensures.bytes c.in_ok-ran.ensures in
     let r : Read = record { cell = c.args.cell.now.id; source = c.in_ok-copy.field-0; same = true } in
     let k : Last = record { path = c.push.new.self; shown = c.in_ok-shown.shown; current = true } in
