@@ -83,6 +83,10 @@ edited_cell c cell rev d (Some own) = if nat_lt 65536 (inserted_by d) then EditT
 abbrev pub edited : Parts → Client → ℕ → List Step → Edited
 edited n0 c cell d = edited_cell c cell (revision (delivered n0 c) cell) d (found cell (cells (held n0 c)))
 
+-- one more message at the outbox's end
+abbrev pub with_message : Client → Op → Client
+with_message c op = record c { outbox = c.outbox ++ op ∷ [] }
+
 abbrev pub without : ℕ → List Pending → List Pending
 without cell [] = []
 without cell (p ∷ ps) = if p.cell == cell then without cell ps else p ∷ without cell ps

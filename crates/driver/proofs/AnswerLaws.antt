@@ -95,3 +95,7 @@ three f d e k (x ∷ y ∷ z ∷ v ∷ vs) a b = absurd (omega arith)
 pub on-ok : {T E : Type 0} (r : Result T E) {A B : Type 0} → (A → B) → OnOk r A → OnOk r B
 on-ok (Ok v) f a = f a
 on-ok (Err e) f a = tt
+
+pub on-ok-both : {T E : Type 0} (r : Result T E) {A B C : Type 0} → (A → B → C) → OnOk r A → OnOk r B → OnOk r C
+on-ok-both (Ok v) f a b = f a b
+on-ok-both (Err e) f a b = tt

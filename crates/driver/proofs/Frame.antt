@@ -7,14 +7,15 @@ use Rattle.session_ops.specs.declared.entry.Op.TheVariants.{Join as Joins}
 use Rattle.session_ops.specs.declared.entry.Call.{Call}
 use Rattle.session_ops.specs.declared.entry.Call.TheVariants.{Client as ByClient}
 use Rattle.session_ops.specs.declared.entry.Reply.{Reply}
-use Rattle.session_ops.specs.declared.entry.Reply.TheVariants.{Accepted, Applied, Refused}
+use Rattle.session_ops.specs.declared.entry.Reply.TheVariants.{Accepted, Applied, Started, Stored, Late, Refused}
+use Rattle.session_ops.specs.Work.{is_idle}
 use Rattle.session_ops.specs.declared.entry.Entry.{Entry}
 use Rattle.session_ops.specs.Same.{same_call}
 use Rattle.client_sync.specs.Client.{Client, Edited, Done, NoCell, EditTooLong, Unfit, edited, client_of}
 use Rattle.script.specs.declared.line.ScriptLine.{ScriptLine}
-use Rattle.script.specs.declared.line.ScriptLine.TheVariants.{Join, Edit, Sync, Show}
+use Rattle.script.specs.declared.line.ScriptLine.TheVariants.{Join, Edit, Post, Sync, Show, Settle, Cells}
 use Rattle.driver.specs.Turns.{Turn, Made, Looked}
-use Rattle.driver.specs.Player.{Stage, Answered, Marked, Game, answered, asks, marked, looks, or_none, send, send_all, round, rounds, all_sent, joined, with_edited, play_edit, play_show, play_line, play}
+use Rattle.driver.specs.Player.{Stage, Answered, Marked, Game, answered, asks, marked, looks, or_none, send, send_all, round, rounds, all_sent, joined, with_edited, play_edit, op_of, play_post, play_show, settled, state_at, play_settle, play_cells, play_line, play}
 
 abbrev pub with_more : List Turn → Stage → Stage
 with_more more s = record s { turns = s.turns ++ more }
@@ -80,6 +81,9 @@ rounds-more more g (suc n) (suc k) s le =
 joined-more : (more : List Turn) (g : Game) (n : ℕ) (p : List Entry) (s : Stage) (answer : Reply) → Some (joined g n p (with_more more s) answer) ≡ Some (with_more more (joined g n p s answer))
 joined-more more g n p s Accepted = refl
 joined-more more g n p s (Applied rev x) = refl
+joined-more more g n p s (Started eval cell) = refl
+joined-more more g n p s (Stored eval) = refl
+joined-more more g n p s (Late eval) = refl
 joined-more more g n p s (Refused why) = refl
 
 edited-more : (more : List Turn) (g : Game) (n cell : ℕ) (s : Stage) (e : Edited) → with_edited g n cell (with_more more s) e ≡ with_more more (with_edited g n cell s e)
@@ -96,11 +100,31 @@ show-more : (more : List Turn) (g : Game) (n : ℕ) (s : Stage) (c : Option Clie
 show-more more g n s None = refl
 show-more more g n s (Some c) = refl
 
+post-more : (more : List Turn) (g : Game) (n : ℕ) (op : Op) (s : Stage) (c : Option Client) → play_post g n op (with_more more s) c ≡ with_more more (play_post g n op s c)
+post-more more g n op s None = refl
+post-more more g n op s (Some c) = refl
+
+idle-of : (more : List Turn) (b : Bool) (s : Stage) → IsMore (with_more more) (if b then Some s else None) (if b then Some (with_more more s) else None)
+idle-of more true s = refl
+idle-of more false s = tt
+
+settled-more : (more : List Turn) (g : Game) (s : Stage) → IsMore (with_more more) (settled g s) (settled g (with_more more s))
+settled-more more g s = bind-more (marked_more more) (with_more more) (looks s) (looks (with_more more s)) _ _ (marked-more more s s.turns) (λ m. idle-of more (is_idle (state_at g m).work) m.stage)
+
+settle-more : (more : List Turn) (g : Game) (s : Stage) → IsMore (with_more more) (play_settle g s) (play_settle g (with_more more s))
+settle-more more g s = bind-more (with_more more) (with_more more) (settled g s) (settled g (with_more more s)) _ _ (settled-more more g s) (λ t. refl)
+
+cells-more : (more : List Turn) (g : Game) (s : Stage) → IsMore (with_more more) (play_cells g s) (play_cells g (with_more more s))
+cells-more more g s = bind-more (marked_more more) (with_more more) (looks s) (looks (with_more more s)) _ _ (marked-more more s s.turns) (λ m. refl)
+
 line-more : (more : List Turn) (g : Game) (l : ScriptLine) (s : Stage) → IsMore (with_more more) (play_line g l s) (play_line g l (with_more more s))
 line-more more g (Join n) s =
     bind-more (answered_more more) (with_more more) (asks (ByClient n Joins) s) (asks (ByClient n Joins) (with_more more s)) _ _ (answered-more more (ByClient n Joins) s s.turns)
     (λ a. joined-more more g n a.seen a.stage a.reply)
 line-more more g (Edit n cell d) s = ap Some (edit-more more g n cell d s (client_of n s.clients))
+line-more more g (Post n op) s = ap Some (post-more more g n (op_of op) s (client_of n s.clients))
+line-more more g Settle s = settle-more more g s
+line-more more g Cells s = cells-more more g s
 line-more more g Sync s = rounds-more more g (length s.turns) (length (s.turns ++ more)) s (rw (length-append s.turns more) (grind arith))
 line-more more g (Show n) s = ap Some (show-more more g n s (client_of n s.clients))
 

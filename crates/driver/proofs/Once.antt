@@ -11,11 +11,12 @@ use Rattle.notebook.specs.declared.parts.Cell.{Cell}
 use Rattle.notebook.specs.declared.parts.Section.{Section}
 use Rattle.notebook.specs.declared.parts.Parts.{Parts}
 use Rattle.notebook.specs.Book.{cells, cells_of, resourced_cells, resourced_sections, resourced}
-use Rattle.session_ops.specs.declared.entry.Op.TheVariants.{Join, Delta}
+use Rattle.session_ops.specs.declared.entry.Op.TheVariants.{Join, Delta, Queue}
 use Rattle.session_ops.specs.declared.entry.Call.{Call}
-use Rattle.session_ops.specs.declared.entry.Call.TheVariants.{Client}
+use Rattle.session_ops.specs.declared.entry.Call.TheVariants.{Client, Start, Respond}
 use Rattle.session_ops.specs.declared.entry.Reply.{Reply}
-use Rattle.session_ops.specs.declared.entry.Reply.TheVariants.{Accepted, Applied, Refused}
+use Rattle.session_ops.specs.declared.entry.Reply.TheVariants.{Accepted, Applied, Started, Stored}
+use Rattle.session_ops.specs.Work.{Work, swept}
 use Rattle.session_ops.specs.declared.entry.Entry.{Entry}
 use Rattle.session_ops.specs.State.{State, Taken, Began, taken_by, first_source, beginnings, opening, moved_source, after, after_call, state_from, state}
 use Rattle.driver.specs.Headline.{AllGrown, text_after_all}
@@ -67,14 +68,18 @@ same-taken s s' (c ∷ cs) taken began h = (rw (taken, began) h.0, same-taken s 
 after-grown : (s : State) (call : Call) (answer : Reply) → AllGrown s (cells s.book) → AllGrown (after_call s call answer) (cells (after_call s call answer).book)
 after-grown s (Client n Join) Accepted h = same-taken s (after_call s (Client n Join) Accepted) (cells s.book) refl refl h
 after-grown s (Client n (Delta cell base d)) (Applied rev x) h = subst (AllGrown (after_call s (Client n (Delta cell base d)) (Applied rev x))) (sym (cells-resourced (moved_source cell x) s.book)) (grown s (after_call s (Client n (Delta cell base d)) (Applied rev x)) cell x refl refl (cells s.book) h)
-after-grown s (Client n Join) (Applied rev x) h = h
-after-grown s (Client n Join) (Refused why) h = h
-after-grown s (Client n (Delta cell base d)) Accepted h = h
-after-grown s (Client n (Delta cell base d)) (Refused why) h = h
+after-grown s (Client n (Queue cell)) Accepted h = same-taken s (after_call s (Client n (Queue cell)) Accepted) (cells s.book) refl refl h
+after-grown s (Start lane) (Started eval cell) h = same-taken s (after_call s (Start lane) (Started eval cell)) (cells s.book) refl refl h
+after-grown s (Respond eval shown) (Stored e) h = same-taken s (after_call s (Respond eval shown) (Stored e)) (cells s.book) refl refl h
+after-grown s call answer h = h
+
+-- a sweep changes no source
+swept-grown : (s : State) (w : Work) → AllGrown s (cells s.book) → AllGrown (record s { work = w }) (cells s.book)
+swept-grown s w h = same-taken s (record s { work = w }) (cells s.book) refl refl h
 
 from-grown : (s : State) (h : List Entry) → AllGrown s (cells s.book) → AllGrown (state_from s h) (cells (state_from s h).book)
 from-grown s [] g = g
-from-grown s (e ∷ es) g = from-grown (after s e) es (after-grown s e.call e.reply g)
+from-grown s (e ∷ es) g = let t : State = after_call s e.call e.reply in from-grown (after s e) es (swept-grown t (swept t.book t.work) (after-grown s e.call e.reply g))
 
 -- each of these cells begins with its source
 abbrev pub AllBegun : List Began → List Cell → Type 0

@@ -6,42 +6,43 @@ use Rattle.delta.specs.declared.Step.{Step}
 use Rattle.delta.specs.declared.Step.TheVariants.{Retain, Insert, Delete}
 use Rattle.notebook.specs.declared.parts.Parts.{Parts}
 use Rattle.session_ops.specs.declared.entry.Op.{Op}
-use Rattle.session_ops.specs.declared.entry.Op.TheVariants.{Join as Joins, Delta}
+use Rattle.session_ops.specs.declared.entry.Op.TheVariants.{Join as Joins, Delta, Queue as Queues}
 use Rattle.session_ops.specs.declared.entry.Call.{Call}
-use Rattle.session_ops.specs.declared.entry.Call.TheVariants.{Client as ByClient}
+use Rattle.session_ops.specs.declared.entry.Call.TheVariants.{Client as ByClient, Start, Respond}
 use Rattle.session_ops.specs.declared.entry.Reply.{Reply}
-use Rattle.session_ops.specs.declared.entry.Reply.TheVariants.{Accepted, Applied, Refused}
+use Rattle.session_ops.specs.declared.entry.Reply.TheVariants.{Accepted, Applied, Started, Stored, Late, Refused}
 use Rattle.session_ops.specs.declared.entry.Entry.{Entry}
-use Rattle.session_ops.specs.State.{state, after_call, is_in, revision, entries_by}
+use Rattle.session_ops.specs.Work.{is_in}
+use Rattle.session_ops.specs.State.{state, after, revision, entries_by}
 use Rattle.session_ops.specs.Same.{same_numbers, same_step, same_steps, same_op, same_call}
 use Rattle.session_ops.proofs.Growing.{state-append}
-use Rattle.client_sync.specs.Client.{Client as Holder, Edited, edited, received, held, delivered, joined_client, client_of, put_client}
+use Rattle.client_sync.specs.Client.{Client as Holder, Edited, edited, received, held, delivered, joined_client, client_of, put_client, with_message}
 use Rattle.client_sync.specs.Causes.{IsEditCause}
 use Rattle.client_sync.specs.declared.edit_error.EditError.{EditError}
 use Rattle.client_sync.specs.declared.edit_error.EditError.TheVariants.{NoCell as NoCellError, EditTooLong as TooLongError, PastEnd, SplitsPair, OutOfMemory}
-use Rattle.script.specs.declared.line.ScriptLine.TheVariants.{Join, Edit, Sync, Show}
+use Rattle.script.specs.declared.line.ScriptLine.TheVariants.{Join, Edit, Post, Sync, Show, Settle, Cells}
+use Rattle.script.specs.declared.line.PostedOp.{PostedOp}
+use Rattle.script.specs.declared.line.PostedOp.TheVariants.{Queue}
 use Rattle.notebook.specs.declared.parts.Cell.{Cell}
 use Rattle.notebook.specs.Book.{cells}
 use Rattle.transcript.proofs.Agreeing.{Agree}
 use Rattle.transcript.proofs.Agreeing.{book_lines-agree}
 use Rattle.transcript.specs.Texts.{as_text, book_lines, rev_in}
 use Rattle.driver.specs.Turns.{Turn, Made, Looked, turns_from, AreMarks}
-use Rattle.driver.specs.Player.{Game, Stage, with_edited, joined, say, with_clients, name_of, edit_line, sent_line, sync_line, joined_line, not_joined_line}
+use Rattle.driver.specs.Player.{Game, Stage, with_edited, joined, say, with_clients, name_of, edit_line, post_line, op_of, play_post, sync_line, joined_line, not_joined_line}
 use Rattle.driver.specs.Headline.{AllOfRun, call_of}
-use Rattle.driver.specs.Lines.{joined_words, not_joined_words, sent_words, sync_words, error_words}
+use Rattle.driver.specs.Lines.{joined_words, not_joined_words, posted_words, sync_words, error_words}
 use Rattle.driver.specs.Session.{IsSession, HasAnswered, entry_of}
-use Rattle.driver.specs.Holder.{Mirrors, IsPosted, confirmed_by}
-use Rattle.driver.specs.Revisions.{raised}
-use Rattle.driver.proofs.ClientLaws.{posted-applied, confirmed}
-use Rattle.driver.specs.Standing.{StandsFor, Stands, Waits, with_posted, HasExchangedAny, HasPlayed, IsEdited, IsUnedited, HasEdited, HasSent, HasExchanged}
+use Rattle.driver.specs.Holder.{Mirrors, AreEvaluations, flights}
+use Rattle.driver.proofs.ClientLaws.{behind-revision, holds-own, queue-posted, flights-queue}
+use Rattle.driver.specs.Standing.{StandsFor, Stands, Waits, with_outbox, HasPlayed, IsEdited, IsUnedited, HasEdited}
 use Rattle.driver.specs.declared.session.Session.{Session}
 use Rattle.driver.specs.declared.client.Client.{Client}
-use Rattle.driver.specs.declared.client.Posted.{Posted}
 use Rattle.driver.specs.declared.player.Player.{Player}
 use Rattle.driver.proofs.TurnLaws.{AllUpTo, entry-more, mark-more}
 
 -- marks
-marks-up : (low : ℕ) (ms : List ℕ) (len : ℕ) → AreMarks low ms len → AllUpTo len ms
+pub marks-up : (low : ℕ) (ms : List ℕ) (len : ℕ) → AreMarks low ms len → AllUpTo len ms
 marks-up low [] len h = tt
 marks-up low (m ∷ ms) len h = (h.1.0, marks-up m ms len h.1.1)
 
@@ -71,7 +72,7 @@ by-of : (b : Bool) (x : Entry) (xs ys : List Entry) → (if b then x ∷ (xs ++ 
 by-of true x xs ys = refl
 by-of false x xs ys = refl
 
-by-append : (h k : List Entry) (p : ℕ) → entries_by (h ++ k) p ≡ entries_by h p ++ entries_by k p
+pub by-append : (h k : List Entry) (p : ℕ) → entries_by (h ++ k) p ≡ entries_by h p ++ entries_by k p
 by-append [] k p = refl
 by-append (x ∷ h) k p = ap (λ ys. if x.by == p then x ∷ ys else ys) (by-append h k p) ∙ by-of (x.by == p) x (entries_by h p) (entries_by k p)
 
@@ -99,9 +100,10 @@ same-steps (s ∷ d) = rw (same-step s) (same-steps d)
 same-op : (op : Op) → same_op op op ≡ true
 same-op Joins = refl
 same-op (Delta cell base d) = rw (equal-self cell, equal-self base) (same-steps d)
+same-op (Queues cell) = equal-self cell
 
-pub same-call : (c : Call) → same_call c c ≡ true
-same-call (ByClient n op) = rw (equal-self n) (same-op op)
+pub same-call : (n : ℕ) (op : Op) → same_call (ByClient n op) (ByClient n op) ≡ true
+same-call n op = rw (equal-self n) (same-op op)
 
 -- the part of a stage that one entry more gives
 pub record Grew (g : Game) (p p' : Player) (s : Stage) (call : Call) (e : Entry) : Type 0 where
@@ -132,7 +134,7 @@ is-last n (j ∷ js) = last-of (j == n) (is_in n (js ++ n ∷ [])) (is-last n js
 -- who was let in has joined
 pub joined-member : (n0 : Parts) (s s' : Session) (n : ℕ) → HasAnswered n0 0 (ByClient n Joins) s s' Accepted → is_in n s'.joined ≡ true
 joined-member n0 s s' n ans =
-    let grown : state n0 s'.history ≡ after_call (state n0 s.history) (ByClient n Joins) Accepted = ap (state n0) ans.history ∙ state-append n0 s.history (entry_of 0 (ByClient n Joins) Accepted) in
+    let grown : state n0 s'.history ≡ after (state n0 s.history) (entry_of 0 (ByClient n Joins) Accepted) = ap (state n0) ans.history ∙ state-append n0 s.history (entry_of 0 (ByClient n Joins) Accepted) in
     ap (is_in n) (ans.session.holds.joined ∙ ap (λ x. x.joined) grown) ∙ is-last n (state n0 s.history).joined
 
 -- join, accepted
@@ -148,7 +150,7 @@ join-played g p p' s n c before after st nobody ans em ec en ez mir printed =
       stage = next;
       more = Made h e ∷ [];
       grown = gr.turns;
-      played = rw (same-call (ByClient n Joins)) refl;
+      played = rw (same-call n Joins) refl;
       stands =
           record {
             session = ans.session;
@@ -167,6 +169,9 @@ join-played g p p' s n c before after st nobody ans em ec en ez mir printed =
 joined-else : (g : Game) (n : ℕ) (seen : List Entry) (s : Stage) (answer : Reply) → answer ≢ Accepted → joined g n seen s answer ≡ say (not_joined_line g n answer ∷ []) s
 joined-else g n seen s Accepted h = absurd (h refl)
 joined-else g n seen s (Applied rev x) h = refl
+joined-else g n seen s (Started eval cell) h = refl
+joined-else g n seen s (Stored eval) h = refl
+joined-else g n seen s (Late eval) h = refl
 joined-else g n seen s (Refused why) h = refl
 
 -- join, not accepted
@@ -182,7 +187,7 @@ join-refused-played g p p' s n answer before after st nobody other ans em ec pri
       stage = say (not_joined_line g n answer ∷ []) mid;
       more = Made h e ∷ [];
       grown = gr.turns;
-      played = rw (same-call (ByClient n Joins)) (ap Some (joined-else g n (h ++ e ∷ []) mid answer other));
+      played = rw (same-call n Joins) (ap Some (joined-else g n (h ++ e ∷ []) mid answer other));
       stands = record { session = ans.session; used = refl; marks = gr.marks; run = gr.run; asked = gr.asked; clients = subst (λ o. StandsFor g.opening p'.session.history o s.clients) (sym ec) none };
       piece = as_text (not_joined_line g n answer ∷ []);
       printed = printed;
@@ -197,7 +202,7 @@ still ts = sym (append-nil ts)
 the-client : (n : ℕ) (m : Holder) → m.number ≡ n → client_of n (m ∷ []) ≡ Some m
 the-client n m e = ap (λ b. if b then Some m else None) {y = true} (grind (arith, nat_tests, e))
 
-put-only : (m' m : Holder) → m.number ≡ m'.number → put_client m' (m ∷ []) ≡ m' ∷ []
+pub put-only : (m' m : Holder) → m.number ≡ m'.number → put_client m' (m ∷ []) ≡ m' ∷ []
 put-only m' m e = ap (λ b. (if b then m' else m) ∷ []) {y = true} (grind (arith, nat_tests, e))
 
 refused-edit : (g : Game) (n cell : ℕ) (s : Stage) (e : Edited) (why : EditError) → why ≢ OutOfMemory → IsEditCause e why → with_edited g n cell s e ≡ say (edit_line g n cell (codes "refused " ++ error_words why) ∷ []) s
@@ -305,9 +310,10 @@ pub show-played : (g : Game) (p p' : Player) (s : Stage) (n : ℕ) (c : Client) 
     → out ≡ before ++ as_text (book_lines (rev_in c.revs) c.book) → HasPlayed g (Show n) p p' s before out
 show-played g p p' s n c m before out st pc cl mir cz nz same printed =
     let number : m.number ≡ n = mir.number ∙ (cz ∙ sym nz) in
-    let known : (k : ℕ) → rev_in c.revs k ≡ revision (delivered g.opening m) k = λ k. mir.server.revs k ∙ ap (λ x. revision (state g.opening x) k) (sym mir.seen) in
+    let known : (k : ℕ) → rev_in c.revs k ≡ revision (delivered g.opening m) k = λ k. mir.carries.server.revs k ∙ sym (behind-revision g.opening p.session.history m.seen k mir.behind) in
     let lines : List (List ℕ) = book_lines (revision (delivered g.opening m)) (held g.opening m) in
-    let equal : book_lines (rev_in c.revs) c.book ≡ lines = book_lines-agree (rev_in c.revs) (revision (delivered g.opening m)) c.book (agree-all (rev_in c.revs) (revision (delivered g.opening m)) known (cells c.book)) ∙ ap (book_lines (revision (delivered g.opening m))) mir.book in
+    let equal : book_lines (rev_in c.revs) c.book ≡ lines
+    = book_lines-agree (rev_in c.revs) (revision (delivered g.opening m)) c.book (agree-all (rev_in c.revs) (revision (delivered g.opening m)) known (cells c.book)) ∙ ap (book_lines (revision (delivered g.opening m))) (sym (holds-own g.opening p.session.history c m mir)) in
     rw same
     (record {
       stage = say lines (record s { turns = [] });
@@ -319,6 +325,69 @@ show-played g p p' s n c m before out st pc cl mir cz nz same printed =
       printed = printed ∙ ap (λ x. before ++ as_text x) equal;
       said = refl;
     })
+
+-- post, where there is no client
+pub post-nobody : (g : Game) (p p' : Player) (s : Stage) (n : ℕ) (op : PostedOp) (before out : List ℕ) → Stands g p s → p.client ≡ None → p' ≡ p → out ≡ before ++ as_text (note_of g n (codes "post") ∷ []) → HasPlayed g (Post n op) p p' s before out
+post-nobody g p p' s n op before out st nobody same printed =
+    let none : s.clients ≡ [] = subst (λ o. StandsFor g.opening p.session.history o s.clients) nobody st.clients in
+    rw same
+    (record {
+      stage = say (note_of g n (codes "post") ∷ []) (record s { turns = [] });
+      more = [];
+      grown = still (turns_from [] p.session.history p.marks);
+      played = rw none refl;
+      stands = record { session = st.session; used = refl; marks = st.marks; run = st.run; asked = st.asked; clients = st.clients };
+      piece = as_text (note_of g n (codes "post") ∷ []);
+      printed = printed;
+      said = refl;
+    })
+
+-- an operation that was posted is mirrored
+posted-mirrors : (n0 : Parts) (h : List Entry) (c c' : Client) (m : Holder) (op : PostedOp) → Mirrors n0 h c m → c' ≡ with_outbox c (c.outbox ++ op_of op ∷ []) → Mirrors n0 h c' (with_message m (op_of op))
+posted-mirrors n0 h c c' m (Queue cell) mir e = queue-posted n0 h c c' m cell mir e
+
+-- a posted operation is no edit that waits
+flights-posted : (ops : List Op) (op : PostedOp) → flights (ops ++ op_of op ∷ []) ≡ flights ops
+flights-posted ops (Queue cell) = flights-queue ops cell
+
+pub waits-posted : (edited : Bool) (c c' : Client) (op : PostedOp) → c' ≡ with_outbox c (c.outbox ++ op_of op ∷ []) → Waits edited (Some c) → Waits edited (Some c')
+waits-posted true c c' op e w = tt
+waits-posted false c c' op e w = ap (λ k. flights k.outbox) e ∙ (flights-posted c.outbox op ∙ w)
+
+-- what a post makes of the stage
+post-stage : (g : Game) (n : ℕ) (op : Op) (s : Stage) (m : Holder) → s.clients ≡ m ∷ [] → m.number ≡ n → play_post g n op s (client_of n s.clients) ≡ say (post_line g n ∷ []) (with_clients (with_message m op ∷ []) s)
+post-stage g n op s m cl number = rw (cl, the-client n m number) (ap (λ cs. say (post_line g n ∷ []) (with_clients cs s)) (put-only (with_message m op) m refl))
+
+-- post
+pub post-played : (g : Game) (p p' : Player) (s : Stage) (n : ℕ) (op : PostedOp) (c c' : Client) (name before out : List ℕ) → Stands g p s → p.client ≡ Some c → n ≡ 0 → p'.session ≡ p.session → p'.marks ≡ p.marks → p'.client ≡ Some c' → name ≡ name_of g n
+    → c' ≡ with_outbox c (c.outbox ++ op_of op ∷ []) → out ≡ before ++ as_text (posted_words name ∷ []) → HasPlayed g (Post n op) p p' s before out
+post-played g p p' s n op c c' name before out st pc nz es em ec nm posted printed =
+    let h : List Entry = p.session.history in
+    let x : StandsFor g.opening h (Some c) s.clients = subst (λ o. StandsFor g.opening h o s.clients) pc st.clients in
+    let m : Holder = x.0 in
+    let mir : Mirrors g.opening h c m = x.1.1.0 in
+    let number : m.number ≡ n = mir.number ∙ (x.1.1.1 ∙ sym nz) in
+    let m' : Holder = with_message m (op_of op) in
+    let s0 : Stage = record s { turns = [] } in
+    let next : Stage = say (post_line g n ∷ []) (with_clients (m' ∷ []) s0) in
+    record {
+      stage = next;
+      more = [];
+      grown = rw (es, em) (still (turns_from [] h p.marks));
+      played = ap Some (post-stage g n (op_of op) s0 m x.1.0 number);
+      stands =
+          record {
+            session = rw es st.session;
+            used = refl;
+            marks = rw (es, em) st.marks;
+            run = rw es st.run;
+            asked = rw es st.asked;
+            clients = rw es (subst (λ o. StandsFor g.opening h o (m' ∷ [])) (sym ec) (m', (refl, (posted-mirrors g.opening h c c' m op mir posted, ap (λ k. k.number) posted ∙ x.1.1.1))));
+          };
+      piece = as_text (post_line g n ∷ []);
+      printed = printed ∙ ap (λ k. before ++ as_text (posted_words k ∷ [])) nm;
+      said = refl;
+    }
 
 drop-front : (h k : List Entry) → drop (length h) (h ++ k) ≡ k
 drop-front h k = drop_at h k (length h) refl
@@ -350,75 +419,14 @@ sync-nobody g p p' s before out st nobody nobody' es em printed =
       said = refl;
     }
 
--- sync, where nothing was posted
-pub sync-stayed : (g : Game) (p p' : Player) (s : Stage) (c : Client) (m : Holder) (before out : List ℕ) → Stands g p s → s.clients ≡ m ∷ [] → Mirrors g.opening p.session.history c m → c.number ≡ 0 → c.posted ≡ None → p'.client ≡ Some c → p'.session ≡ p.session
-    → p'.marks ≡ p.marks ++ length p.session.history ∷ [] → out ≡ before ++ as_text (sync_words (length p.session.history) ∷ []) → HasPlayed g Sync p p' s before out
-sync-stayed g p p' s c m before out st cl mir cz quiet pc' es em printed =
-    let h : List Entry = p.session.history in
-    let empty : m.outbox ≡ [] = (subst (λ o. IsPosted (state g.opening h) o m) quiet mir.posted).1 in
-    let past : drop (length m.seen) h ≡ [] = ap (λ x. drop (length x) h) mir.seen ∙ drop-whole h in
-    record {
-      stage = record { turns = []; clients = m ∷ []; asked = s.asked; said = s.said ++ as_text (sync_line h ∷ []) };
-      more = Looked h ∷ [];
-      grown = rw (es, em) (turns-looked h p.marks);
-      played = rw (cl, empty, past) refl;
-      stands =
-          record {
-            session = rw es st.session;
-            used = refl;
-            marks = rw (es, em) (marks-push 0 p.marks (length h) (omega arith) st.marks);
-            run = rw es st.run;
-            asked = rw es st.asked;
-            clients = rw es (subst (λ o. StandsFor g.opening h o (m ∷ [])) (sym pc') (m, (refl, (mir, cz))));
-          };
-      piece = as_text (sync_line h ∷ []);
-      printed = printed;
-      said = refl;
-    }
-
--- sync, where an edit was posted
-pub sync-sent : (g : Game) (p p' : Player) (s : Stage) (c c' : Client) (m : Holder) (posted : Posted) (before out : List ℕ) (mid : List ℕ) → Stands g p s → s.clients ≡ m ∷ [] → Mirrors g.opening p.session.history c m → c.number ≡ 0 → c.posted ≡ Some posted
-    → HasSent g.opening (name_of g 0) posted p.session p'.session c c' m before mid → p'.client ≡ Some c' → p'.marks ≡ p.marks ++ length p'.session.history ∷ [] → out ≡ mid ++ as_text (sync_words (length p'.session.history) ∷ []) → HasPlayed g Sync p p' s before out
-sync-sent g p p' s c c' m posted before out mid st cl mir cz some sent pc' em printed =
-    let h : List Entry = p.session.history in
-    let call : Call = ByClient c.number (Delta posted.cell posted.base posted.delta) in
-    let reply : Reply = Applied sent.rev posted.delta in
-    let e : Entry = entry_of 0 call reply in
-    let h' : List Entry = p'.session.history in
-    let own : IsPosted (state g.opening h) (Some posted) m = subst (λ o. IsPosted (state g.opening h) o m) some mir.posted in
-    let zero : m.number ≡ 0 = mir.number ∙ cz in
-    let same : same_call call (ByClient m.number (Delta posted.cell posted.base posted.delta)) ≡ true = subst (λ n. same_call call (ByClient n (Delta posted.cell posted.base posted.delta)) ≡ true) (sym mir.number) (same-call call) in
-    let past : drop (length m.seen) (h ++ e ∷ []) ≡ e ∷ [] = ap (λ x. drop (length x) (h ++ e ∷ [])) mir.seen ∙ drop-front h (e ∷ []) in
-    let turns : turns_from [] h' p'.marks ≡ turns_from [] h p.marks ++ Made h e ∷ Looked (h ++ e ∷ []) ∷ []
-    = ap (λ ms. turns_from [] h' ms) em ∙ (turns-looked h' p.marks ∙ (ap (λ x. turns_from [] x p.marks ++ Looked x ∷ []) sent.answered.history
-    ∙ (ap (λ ts. ts ++ Looked (h ++ e ∷ []) ∷ []) (turns-made h p.marks e st.marks refl) ∙ append_assoc (turns_from [] h p.marks) (Made h e ∷ []) (Looked (h ++ e ∷ []) ∷ [])))) in
-    record {
-      stage = record { turns = []; clients = joined_client c.number h' ∷ []; asked = s.asked ++ ByClient m.number (Delta posted.cell posted.base posted.delta) ∷ []; said = (s.said ++ as_text (sent_line g m.number reply ∷ [])) ++ as_text (sync_line (h ++ e ∷ []) ∷ []) };
-      more = Made h e ∷ Looked (h ++ e ∷ []) ∷ [];
-      grown = turns;
-      played = rw (cl, own.1.0, same, equal-self m.number, past, sent.came) refl;
-      stands =
-          record {
-            session = sent.answered.session;
-            used = refl;
-            marks = rw em (marks-push 0 p.marks (length h') (omega arith) (marks-longer 0 p.marks (length h) (length h') (rw (sent.answered.history, length-append h (e ∷ [])) (omega arith)) st.marks));
-            run = rw sent.answered.history (run-push h e st.run refl);
-            asked = rw (sent.answered.history, asked-push h e refl, mir.number) (ap (λ cs. cs ++ call ∷ []) st.asked);
-            clients = subst (λ o. StandsFor g.opening h' o (joined_client c.number h' ∷ [])) (sym pc') (joined_client c.number h', (refl, (sent.mirrors, sent.number ∙ cz)));
-          };
-      piece = as_text (sent_line g m.number reply ∷ []) ++ as_text (sync_line (h ++ e ∷ []) ∷ []);
-      printed = printed ∙ (ap (λ x. mid ++ as_text (sync_words (length x) ∷ [])) sent.answered.history ∙ (ap (λ x. x ++ as_text (sync_line (h ++ e ∷ []) ∷ [])) (sent.printed ∙ ap (λ n. before ++ as_text (sent_line g n reply ∷ [])) (sym zero)) ∙ append_assoc before (as_text (sent_line g m.number reply ∷ [])) (as_text (sync_line (h ++ e ∷ []) ∷ []))));
-      said = append_assoc s.said (as_text (sent_line g m.number reply ∷ [])) (as_text (sync_line (h ++ e ∷ []) ∷ []));
-    }
-
 edit-any : (g : Game) (p p' : Player) (s : Stage) (n cell : ℕ) (d : List Step) (c c' : Client) (m : Holder) (before out : List ℕ) → Stands g p s → p.client ≡ Some c → s.clients ≡ m ∷ [] → Mirrors g.opening p.session.history c m → c.number ≡ 0 → n ≡ 0
     → p'.session ≡ p.session → p'.marks ≡ p.marks → p'.client ≡ Some c' → HasEdited g.opening p.session.history (name_of g n) cell d c c' m before out → HasPlayed g (Edit n cell d) p p' s before out
 edit-any g p p' s n cell d c c' m before out st pc cl mir cz nz es em ec (inl ed) = edit-played g p p' s n cell d c c' m before out st cl mir cz nz es em ec ed
 edit-any g p p' s n cell d c c' m before out st pc cl mir cz nz es em ec (inr un) = edit-unplayed g p p' s n cell d c c' m before out st pc cl mir cz nz es em ec un
 
--- edit, where there is a client with nothing posted
+-- edit, where there is a client with no edit waiting
 pub edit-some : (g : Game) (p p' : Player) (s : Stage) (n cell : ℕ) (d : List Step) (c c' : Client) (name before out : List ℕ) → Stands g p s → p.client ≡ Some c → Waits false p.client → n ≡ 0 → p'.session ≡ p.session → p'.marks ≡ p.marks → p'.client ≡ Some c' → name ≡ name_of g n
-    → ((n0 : Parts) → (h : List Entry) → (m : Holder) → Mirrors n0 h c m → c.posted ≡ None → HasEdited n0 h name cell d c c' m before out) → HasPlayed g (Edit n cell d) p p' s before out
+    → ((n0 : Parts) → (h : List Entry) → (m : Holder) → Mirrors n0 h c m → flights c.outbox ≡ [] → HasEdited n0 h name cell d c c' m before out) → HasPlayed g (Edit n cell d) p p' s before out
 edit-some g p p' s n cell d c c' name before out st pc w nz es em ec nm f =
     let x : StandsFor g.opening p.session.history (Some c) s.clients = subst (λ o. StandsFor g.opening p.session.history o s.clients) pc st.clients in
     let quiet : Waits false (Some c) = subst (Waits false) pc w in
@@ -429,50 +437,3 @@ pub show-some : (g : Game) (p p' : Player) (s : Stage) (n : ℕ) (c : Client) (b
 show-some g p p' s n c before out st pc nz same printed =
     let x : StandsFor g.opening p.session.history (Some c) s.clients = subst (λ o. StandsFor g.opening p.session.history o s.clients) pc st.clients in
     show-played g p p' s n c x.0 before out st pc x.1.0 x.1.1.0 x.1.1.1 nz same printed
-
-exchanged-of : (g : Game) (p p' : Player) (s : Stage) (c c' : Client) (m : Holder) (o : Option Posted) (before mid out : List ℕ) → Stands g p s → s.clients ≡ m ∷ [] → Mirrors g.opening p.session.history c m → c.number ≡ 0 → c.posted ≡ o
-    → HasExchanged o g.opening (name_of g 0) p.session p'.session c c' m before mid → p'.client ≡ Some c' → p'.marks ≡ p.marks ++ length p'.session.history ∷ [] → out ≡ mid ++ as_text (sync_words (length p'.session.history) ∷ []) → HasPlayed g Sync p p' s before out
-exchanged-of g p p' s c c' m None before mid out st cl mir cz po x pc em printed =
-    let same : length p'.session.history ≡ length p.session.history = ap (λ y. length y.history) x.session in
-    sync-stayed g p p' s c m before out st cl mir cz po (pc ∙ ap Some x.client) x.session (em ∙ ap (λ k. p.marks ++ k ∷ []) same) (printed ∙ (ap (λ y. y ++ as_text (sync_words (length p'.session.history) ∷ [])) x.printed ∙ ap (λ k. before ++ as_text (sync_words k ∷ [])) same))
-exchanged-of g p p' s c c' m (Some posted) before mid out st cl mir cz po x pc em printed = sync-sent g p p' s c c' m posted before out mid st cl mir cz po x pc em printed
-
-sync-of : (g : Game) (p p' : Player) (s : Stage) (o : Option Client) (before mid out : List ℕ) → Stands g p s → p.client ≡ o → HasExchangedAny o p'.client g.opening (name_of g 0) p.session p'.session before mid → p'.marks ≡ p.marks ++ length p'.session.history ∷ []
-    → out ≡ mid ++ as_text (sync_words (length p'.session.history) ∷ []) → HasPlayed g Sync p p' s before out
-sync-of g p p' s None before mid out st pc x em printed =
-    let same : length p'.session.history ≡ length p.session.history = ap (λ y. length y.history) x.1.0 in
-    sync-nobody g p p' s before out st pc x.0 x.1.0 (em ∙ ap (λ k. p.marks ++ k ∷ []) same) (printed ∙ (ap (λ y. y ++ as_text (sync_words (length p'.session.history) ∷ [])) x.1.1 ∙ ap (λ k. before ++ as_text (sync_words k ∷ [])) same))
-sync-of g p p' s (Some c) before mid out st pc x em printed =
-    let y : StandsFor g.opening p.session.history (Some c) s.clients = subst (λ o. StandsFor g.opening p.session.history o s.clients) pc st.clients in
-    exchanged-of g p p' s c x.0 y.0 c.posted before mid out st y.1.0 y.1.1.0 y.1.1.1 refl (x.1.1 y.0 y.1.1.0) x.1.0 em printed
-
--- sync
-pub sync-any : (g : Game) (p p' : Player) (s : Stage) (name before mid out : List ℕ) (at : ℕ) → Stands g p s → name ≡ name_of g 0 → HasExchangedAny p.client p'.client g.opening name p.session p'.session before mid → at ≡ length p'.session.history → p'.marks ≡ p.marks ++ at ∷ []
-    → out ≡ mid ++ as_text (sync_words at ∷ []) → HasPlayed g Sync p p' s before out
-sync-any g p p' s name before mid out at st nm x len em printed =
-    sync-of g p p' s p.client before mid out st refl (subst (λ k. HasExchangedAny p.client p'.client g.opening k p.session p'.session before mid) nm x) (em ∙ ap (λ k. p.marks ++ k ∷ []) len) (printed ∙ ap (λ k. mid ++ as_text (sync_words k ∷ [])) len)
-
--- nothing was posted
-pub exchange-none : (n0 : Parts) (name : List ℕ) (old new : Session) (c c' : Client) (m : Holder) (before out : List ℕ) → c.posted ≡ None → c' ≡ record c { posted = None } → new ≡ old → out ≡ before → HasExchanged c.posted n0 name old new c c' m before out
-exchange-none n0 name old new c c' m before out none left es eo =
-    subst (λ o. HasExchanged o n0 name old new c c' m before out) (sym none) (record { session = es; client = left ∙ ap (λ o. let k : Client = record c { posted = o } in k) (sym none); printed = eo })
-
--- an edit was taken out and sent
-pub exchange-some : (n0 : Parts) (name : List ℕ) (old new : Session) (c mid c' : Client) (m : Holder) (p : Posted) (before out : List ℕ) → c.posted ≡ Some p → mid ≡ record c { posted = None } → Mirrors n0 old.history c m
-    → (Mirrors n0 old.history (with_posted mid p) m → HasSent n0 name p old new (with_posted mid p) c' m before out) → HasExchanged c.posted n0 name old new c c' m before out
-exchange-some n0 name old new c mid c' m p before out some left mir f =
-    let back : with_posted mid p ≡ c = ap (λ k. with_posted k p) left ∙ ap (λ o. let k : Client = record c { posted = o } in k) (sym some) in
-    subst (λ o. HasExchanged o n0 name old new c c' m before out) (sym some) (subst (λ k. HasSent n0 name p old new k c' m before out) back (f (subst (λ k. Mirrors n0 old.history k m) (sym back) mir)))
-
--- what was sent is applied as it is
-pub sent-applied : (n0 : Parts) (name : List ℕ) (old new : Session) (c c' : Client) (m : Holder) (p : Posted) (answer : Reply) (before out : List ℕ) → c.posted ≡ None → IsSession n0 old → Mirrors n0 old.history (with_posted c p) m
-    → (p.base ≡ revision (state n0 old.history) p.cell → HasAnswered n0 0 (ByClient c.number (Delta p.cell p.base p.delta)) old new answer) → c' ≡ confirmed_by p.cell answer c → out ≡ before ++ as_text (sent_words name answer ∷ []) → HasSent n0 name p old new (with_posted c p) c' m before out
-sent-applied n0 name old new c c' m p answer before out none is mir ans conf printed =
-    let rev : ℕ = revision (state n0 old.history) p.cell + 1 in
-    let got : HasAnswered n0 0 (ByClient c.number (Delta p.cell p.base p.delta)) old new answer = ans mir.posted.1.1.0 in
-    let applied : answer ≡ Applied rev p.delta = got.right ∙ posted-applied n0 old (with_posted c p) m p is mir refl in
-    let got' : HasAnswered n0 0 (ByClient c.number (Delta p.cell p.base p.delta)) old new (Applied rev p.delta) = subst (λ r. HasAnswered n0 0 (ByClient c.number (Delta p.cell p.base p.delta)) old new r) applied got in
-    let after' : c' ≡ record c { revs = raised p.cell rev c.revs } = conf ∙ ap (λ r. confirmed_by p.cell r c) applied in
-    let both : received n0 (record m { outbox = [] }) (entry_of 0 (ByClient c.number (Delta p.cell p.base p.delta)) (Applied rev p.delta) ∷ []) ≡ joined_client c.number new.history × Mirrors n0 new.history c' (joined_client c.number new.history)
-    = confirmed n0 old new (with_posted c p) c' m p 0 rev mir refl is got' refl (ap (λ k. k.number) after') (ap (λ k. k.book) after') (ap (λ k. k.revs) after') (ap (λ k. k.posted) after' ∙ none) in
-    record { rev = rev; answered = got'; came = both.0; mirrors = both.1; number = ap (λ k. k.number) after'; printed = printed ∙ ap (λ r. before ++ as_text (sent_words name r ∷ [])) applied }

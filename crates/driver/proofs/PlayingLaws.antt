@@ -1,38 +1,43 @@
 -- Lines played one after the other, and the end.
-use Rattle.std.proofs.Common.{◌≡◌, ℕ, ◌+◌, ◌<◌, ◌≤◌, Bool, false, List, [], ◌∷◌, ◌++◌, length, map, drop, take, get_or, Option, Some, None, codes, refl, sym, ap, subst, ◌∙◌, arith, append_assoc, inl, inr}
+use Rattle.std.proofs.Common.{◌≡◌, ℕ, ◌+◌, ◌<◌, ◌≤◌, Bool, false, if◌then◌else◌, List, [], ◌∷◌, ◌++◌, length, map, drop, take, get_or, Option, Some, None, codes, refl, sym, ap, subst, ◌∙◌, arith, append_assoc, inl, inr}
 use Rattle.std.proofs.lemmas.List.{append-nil, drop_more, drop_all, take_more, take_all}
 use Rattle.notebook.specs.declared.parts.Parts.{Parts}
 use Rattle.notebook.specs.Book.{cells}
 use Rattle.notebook.specs.Rules.{AreDistinct, cell_number}
 use Rattle.session_ops.specs.declared.entry.Entry.{Entry}
-use Rattle.session_ops.specs.State.{state, revision, entries_by}
+use Rattle.session_ops.specs.declared.entry.Op.{Op}
+use Rattle.session_ops.specs.declared.entry.Op.TheVariants.{Join as Joins, Delta, Queue}
+use Rattle.session_ops.specs.State.{State, state, revision, entries_by}
+use Rattle.session_ops.proofs.Shown.{evaluated-shows}
 use Rattle.std.proofs.lemmas.Bool.Decides.{nat_tests}
 use Rattle.delta.specs.Moves.{text_after}
 use Rattle.session_ops.specs.State.{misfit}
 use Rattle.client_sync.specs.Client.{Client as Holder, delivered}
 use Rattle.script.specs.declared.line.ScriptLine.{ScriptLine}
-use Rattle.script.specs.declared.line.ScriptLine.TheVariants.{Join, Edit, Sync, Show}
+use Rattle.script.specs.declared.line.ScriptLine.TheVariants.{Join, Edit, Post, Sync, Show, Settle, Cells}
 use Rattle.script.specs.declared.content.Content.{Content}
 use Rattle.script.specs.Play.{GoesOn, Begins, IsPlay, IsPlayable}
-use Rattle.transcript.specs.Texts.{as_text, book_lines, rev_in}
+use Rattle.std.proofs.lemmas.Grind.{flat_map-append}
+use Rattle.transcript.specs.Texts.{as_text, ended_line, book_lines, rev_in}
 use Rattle.transcript.proofs.Agreeing.{book_lines-agree}
 use Rattle.book_outside.specs.Outside.{AppendsAll}
 use Rattle.driver.specs.Turns.{Turn, Looked, turns_from, AreMarks}
-use Rattle.driver.specs.Player.{Game, Stage, or_none, play, play_line}
-use Rattle.driver.specs.Transcript.{game, begun, stage_after, settled, finished, ending, transcript, end_lines, status_lines}
+use Rattle.driver.specs.Player.{Game, Stage, or_none, say, play, play_line, settled, states_at}
+use Rattle.driver.specs.Transcript.{game, begun, stage_after, finished, ending, transcript, end_lines}
 use Rattle.driver.specs.Headline.{AllOfRun, AllClients, IsClientOf, AllFit, IsHistory, IsPlayed, call_of}
 use Rattle.driver.specs.Session.{IsSession}
-use Rattle.driver.specs.Holder.{Mirrors, IsPosted, FitsIn}
+use Rattle.driver.specs.Holder.{Mirrors, AreWaiting, flights, FitsIn}
 use Rattle.driver.specs.Standing.{Stands, StandsFor, Waits, HasPlayed, after_line}
-use Rattle.driver.specs.Ends.{IsFresh}
+use Rattle.driver.specs.Ends.{IsFresh, HasEnded, EndsWritten}
 use Rattle.driver.specs.Playing.{IsReady, MayFollow, HavePlayed, IsOnTheWay}
 use Rattle.driver.specs.declared.client.Client.{Client}
-use Rattle.driver.specs.declared.client.Posted.{Posted}
 use Rattle.driver.specs.declared.player.Player.{Player}
 use Rattle.driver.proofs.Frame.{with_more, IsMore, play-more}
 use Rattle.driver.proofs.Holding.{holds-all}
 use Rattle.driver.proofs.Once.{all-grown}
-use Rattle.driver.proofs.PlayerLaws.{turns-looked, marks-push, agree-all}
+use Rattle.driver.proofs.PlayerLaws.{agree-all}
+use Rattle.driver.proofs.ClientLaws.{behind-book}
+use Rattle.driver.proofs.SettlingLaws.{looked-stands, looked-turns}
 
 -- what may come after a line
 follow-going : (edited : Bool) (o o' : Option Client) (l : ScriptLine) (rest : List ScriptLine) → GoesOn edited (l ∷ rest) → IsReady edited o l × MayFollow (after_line l edited) o' rest
@@ -40,12 +45,18 @@ follow-going edited o o' (Join n) rest h = absurd h
 follow-going edited o o' (Edit n cell d) rest h = ((h.0, h.1), inl h.2)
 follow-going edited o o' Sync rest h = (tt, inl h)
 follow-going edited o o' (Show n) rest h = (h.0, inl h.1)
+follow-going edited o o' (Post n op) rest h = (h.0, inl h.1)
+follow-going edited o o' Settle rest h = (tt, inl h)
+follow-going edited o o' Cells rest h = (tt, inl h)
 
 follow-begin : (edited : Bool) (o o' : Option Client) (l : ScriptLine) (rest : List ScriptLine) → o ≡ None → Begins (l ∷ rest) → IsReady edited o l × MayFollow (after_line l edited) o' rest
 follow-begin edited o o' (Join n) rest e h = ((h.0, e), inl h.1)
 follow-begin edited o o' (Edit n cell d) rest e h = absurd h
 follow-begin edited o o' Sync rest e h = absurd h
 follow-begin edited o o' (Show n) rest e h = absurd h
+follow-begin edited o o' (Post n op) rest e h = absurd h
+follow-begin edited o o' Settle rest e h = absurd h
+follow-begin edited o o' Cells rest e h = absurd h
 
 pub follow-next : (edited : Bool) (o o' : Option Client) (l : ScriptLine) (rest : List ScriptLine) → MayFollow edited o (l ∷ rest) → IsReady edited o l × MayFollow (after_line l edited) o' rest
 follow-next edited o o' l rest (inl h) = follow-going edited o o' l rest h
@@ -138,18 +149,19 @@ first-stage n0 names p is eh ec em =
 empty-fits : (t : List ℕ) → misfit [] t ≡ None
 empty-fits t = grind (arith, nat_tests)
 
--- the client of the stage is one of the history
-fit-of : (n0 : Parts) (h : List Entry) (o : Option Posted) (m : Holder) → IsPosted (state n0 h) o m → m.seen ≡ h → AllFit m.pending (cells (delivered n0 m).book)
-fit-of n0 h None m posted seen = subst (λ ps. AllFit ps (cells (delivered n0 m).book)) (sym posted.0) tt
-fit-of n0 h (Some p) m posted seen =
-    let fits : FitsIn (state n0 h).book p.cell p.delta = posted.1.1.1 in
-    subst (λ ps. AllFit ps (cells (delivered n0 m).book)) (sym posted.0) (rw (seen, fits.there) ((fits.fits, empty-fits (text_after p.delta fits.own.source)), tt))
+-- the edits in flight fit what the server has
+flights-fit : (st : State) (ops : List Op) → AreWaiting st ops → AllFit (flights ops) (cells st.book)
+flights-fit st [] w = tt
+flights-fit st (Joins ∷ ops) w = absurd w
+flights-fit st (Delta cell base d ∷ ops) w = let f : FitsIn st.book cell d = w.1.0 in (rw f.there (f.fits, empty-fits (text_after d f.own.source)), flights-fit st ops w.1.1.1)
+flights-fit st (Queue cell ∷ ops) w = flights-fit st ops w
 
+-- the client of the stage is one of the history
 client-of : (n0 : Parts) (h : List Entry) (c : Client) (m : Holder) → Mirrors n0 h c m → IsClientOf n0 h m
 client-of n0 h c m mir =
     record {
-      cursor = ([], sym (append-nil m.seen ∙ mir.seen));
-      edits = fit-of n0 h c.posted m mir.posted mir.seen;
+      cursor = (mir.behind.0, mir.behind.1.0);
+      edits = subst (λ ps. AllFit ps (cells (delivered n0 m).book)) (sym mir.pending) (subst (λ b. AllFit (flights c.outbox) (cells b)) (behind-book n0 h m.seen mir.behind) (flights-fit (state n0 h) c.outbox mir.carries.waiting));
       agrees = λ all quiet. holds-all n0 h m all quiet;
     }
 
@@ -157,16 +169,18 @@ clients-of : (n0 : Parts) (h : List Entry) (o : Option Client) (ms : List Holder
 clients-of n0 h None ms e = subst (AllClients n0 h) (sym e) tt
 clients-of n0 h (Some c) ms x = subst (AllClients n0 h) (sym x.1.0) (client-of n0 h c x.0 x.1.1.0, tt)
 
--- the end prints what the definition says
-end-known : (n0 : Parts) (p : Player) → IsSession n0 p.session → codes "end" ∷ (book_lines (rev_in p.session.revs) p.session.book ++ status_lines p.session.book) ≡ end_lines (state n0 p.session.history)
-end-known n0 p is =
-    let st = state n0 p.session.history in
-    ap (λ ls. codes "end" ∷ (ls ++ status_lines p.session.book)) (book_lines-agree (rev_in p.session.revs) (revision st) p.session.book (agree-all (rev_in p.session.revs) (revision st) is.holds.revs (cells p.session.book)))
-    ∙ ap (λ b. codes "end" ∷ (book_lines (revision st) b ++ status_lines b)) is.holds.book
+-- what a session prints of itself at the end
+pub end-printed : (n0 : Parts) (p : Player) (a b c : List ℕ) → IsSession n0 p.session → a ≡ as_text (codes "end" ∷ []) → b ≡ a ++ as_text (book_lines (rev_in p.session.revs) p.session.book) → c ≡ b ++ as_text (states_at (state n0 p.session.history)) → c ≡ as_text (end_lines (state n0 p.session.history))
+end-printed n0 p a b c is ea eb ec =
+    let st : State = state n0 p.session.history in
+    let lines : book_lines (rev_in p.session.revs) p.session.book ≡ book_lines (revision st) st.book
+    = book_lines-agree (rev_in p.session.revs) (revision st) p.session.book (agree-all (rev_in p.session.revs) (revision st) is.holds.revs (cells p.session.book)) ∙ ap (book_lines (revision st)) is.holds.book in
+    ec ∙ (ap (λ x. x ++ as_text (states_at st)) (eb ∙ (ap (λ x. x ++ as_text (book_lines (rev_in p.session.revs) p.session.book)) ea ∙ ap (λ ls. as_text (codes "end" ∷ []) ++ as_text ls) lines))
+    ∙ (append_assoc (as_text (codes "end" ∷ [])) (as_text (book_lines (revision st) st.book)) (as_text (states_at st)) ∙ ap (λ x. as_text (codes "end" ∷ []) ++ x) (sym (flat_map-append ended_line (book_lines (revision st) st.book) (states_at st)))))
 
 -- a history that was played
 pub history-of : (g : Game) (p : Player) (s : Stage) → Stands g p s → IsHistory g.opening 0 p.session.history p.marks
-history-of g p s st = record { legal = st.session.legal; marked = st.marks; others = st.run }
+history-of g p s st = record { legal = st.session.legal; marked = st.marks; others = st.run; answered = st.session.answered }
 
 zero-least : (n : ℕ) → 0 ≤ n
 zero-least n = omega arith
@@ -174,37 +188,42 @@ zero-least n = omega arith
 no-turns : (p : Player) → p.session.history ≡ [] → p.marks ≡ [] → turns_from [] p.session.history p.marks ≡ []
 no-turns p eh em = ap (λ h. turns_from [] h p.marks) eh ∙ ap (λ ms. turns_from [] [] ms) em
 
+-- the stage at the end stands
+ended-stands : (g : Game) (p p' : Player) (s : Stage) → Stands g p s → HasEnded g.opening p p' → Stands g p' (say [] (record s { turns = [] }))
+ended-stands g p p' s st e = looked-stands g p p' s [] st e.settled.gone e.client e.marks
+
 -- the end of the play
-pub all-played : (n0 : Parts) (content : Content) (p0 p1 p2 : Player) (w0 w1 w2 : Option (List ℕ)) (bytes : List ℕ) → AreDistinct (map cell_number (cells n0)) → p0.session.history ≡ [] → p0.marks ≡ [] → (x : HavePlayed (game n0 content) content.lines p0 p1 (begun [] []) w0 w1)
-    → p2.session ≡ p1.session → p2.marks ≡ p1.marks ++ length p1.session.history ∷ [] → bytes ≡ as_text (codes "end" ∷ (book_lines (rev_in p1.session.revs) p1.session.book ++ status_lines p1.session.book)) → AppendsAll w1 bytes w2
+pub all-played : (n0 : Parts) (content : Content) (p0 p1 p2 : Player) (w0 w1 w2 : Option (List ℕ)) → AreDistinct (map cell_number (cells n0)) → p0.session.history ≡ [] → p0.marks ≡ [] → (x : HavePlayed (game n0 content) content.lines p0 p1 (begun [] []) w0 w1)
+    → HasEnded n0 p1 p2 → AppendsAll w1 (as_text (end_lines (state n0 p2.session.history))) w2
     → (text : List ℕ) × (IsPlayed n0 [] content 0 p2.session.history p2.marks text × AppendsAll w0 text w2)
-all-played n0 content p0 p1 p2 w0 w1 w2 bytes d eh em x es ems eb w =
+all-played n0 content p0 p1 p2 w0 w1 w2 d eh em x e w =
     let g : Game = game n0 content in
-    let h : List Entry = p1.session.history in
-    let ms : List ℕ = p1.marks ++ length h ∷ [] in
-    let grown : turns_from [] h p1.marks ≡ x.more = x.grown ∙ ap (λ ts. ts ++ x.more) (no-turns p0 eh em) in
-    let turns : turns_from [] h ms ≡ x.more ++ Looked h ∷ [] = turns-looked h p1.marks ∙ ap (λ ts. ts ++ Looked h ∷ []) grown in
+    let h : List Entry = p2.session.history in
+    let ms : List ℕ = p2.marks in
+    let end : Stands g p2 (say [] (record x.stage { turns = [] })) = ended-stands g p1 p2 x.stage x.stands e in
+    let grown : turns_from [] p1.session.history p1.marks ≡ x.more = x.grown ∙ ap (λ ts. ts ++ x.more) (no-turns p0 eh em) in
+    let turns : turns_from [] h ms ≡ x.more ++ Looked h ∷ [] = looked-turns g p1 p2 x.stage x.stands e.settled.gone e.marks ∙ ap (λ ts. ts ++ Looked h ∷ []) grown in
     let last : Stage = record x.stage { turns = [] } in
     let lines : stage_after n0 content content.lines h ms ≡ Some (record x.stage { turns = Looked h ∷ [] })
     = ap (λ ts. let k : Stage = record { turns = ts; clients = []; asked = []; said = [] } in play g content.lines k) turns
     ∙ (more-of x.more (Looked h ∷ []) (begun [] []) content.lines g x.stage x.played ∙ ap Some (used-up (Looked h ∷ []) x.stage x.stands.used)) in
-    let done : finished n0 content h ms ≡ Some last = ap (λ o. or_none o (settled g)) lines in
+    let idle : settled g (record x.stage { turns = Looked h ∷ [] }) ≡ Some last = ap (λ b. if b then Some last else None) e.settled.idle in
+    let done : finished n0 content h ms ≡ Some last = ap (λ o. or_none o (settled g)) lines ∙ idle in
     let text : List ℕ = x.stage.said ++ as_text (end_lines (state n0 h)) in
-    let printed : transcript n0 [] content h ms ≡ Some text = ap (λ o. or_none o (λ s. ending n0 [] h s s.turns)) done in
-    let tail : bytes ≡ as_text (end_lines (state n0 h)) = eb ∙ ap as_text (end-known n0 p1 x.stands.session) in (
+    let printed : transcript n0 [] content h ms ≡ Some text = ap (λ o. or_none o (λ s. ending n0 [] h s s.turns)) done in (
       text,
       (
-        rw (es, ems)
-            (record {
-              history = record { legal = x.stands.session.legal; marked = marks-push 0 p1.marks (length h) (zero-least (length h)) x.stands.marks; others = x.stands.run };
-              printed = printed;
-              stage = last;
-              played = done;
-              calls = x.stands.asked;
-              clients = clients-of n0 h p1.client x.stage.clients x.stands.clients;
-              once = all-grown n0 h d;
-            }),
-        subst (λ z. AppendsAll w0 z w2) (ap (λ z. z ++ as_text (end_lines (state n0 h))) (sym x.said)) (written-more w0 w1 w2 x.piece (as_text (end_lines (state n0 h))) x.written (subst (λ z. AppendsAll w1 z w2) tail w)),
+        record {
+          history = record { legal = end.session.legal; marked = end.marks; others = end.run; answered = end.session.answered };
+          printed = printed;
+          stage = last;
+          played = done;
+          calls = end.asked;
+          clients = clients-of n0 h p2.client x.stage.clients end.clients;
+          once = all-grown n0 h d;
+          evaluated = evaluated-shows n0 h end.session.legal;
+        },
+        subst (λ z. AppendsAll w0 z w2) (ap (λ z. z ++ as_text (end_lines (state n0 h))) (sym x.said)) (written-more w0 w1 w2 x.piece (as_text (end_lines (state n0 h))) x.written w),
       ),
     )
 
@@ -264,16 +283,21 @@ fresh-failed n0 content p0 p1 names lines fr ok en el f =
 first-distinct : (n0 : Parts) (p : Player) → IsFresh n0 p → AreDistinct (map cell_number (cells n0))
 first-distinct n0 p fr = subst (λ h. AreDistinct (map cell_number (cells (state n0 h).book))) fr.history fr.session.holds.numbers
 
+-- the session after the lines
+pub fresh-session : (n0 : Parts) (content : Content) (p0 p1 : Player) (w0 w1 : Option (List ℕ)) (names : List (List ℕ)) (lines : List ScriptLine) → IsFresh n0 p0 → IsPlayable content → names ≡ content.names → lines ≡ content.lines → LinesPlayed p0 p1 w0 w1 names lines → IsSession n0 p1.session
+fresh-session n0 content p0 p1 w0 w1 names lines fr ok en el f = (fresh-way n0 content p0 p1 w0 w1 names lines fr ok en el f).so_far.stands.session
+
 -- the script was played to its end
-pub fresh-played : (n0 : Parts) (content : Content) (p0 p1 p2 : Player) (w0 w1 w2 : Option (List ℕ)) (names : List (List ℕ)) (lines : List ScriptLine) (bytes : List ℕ) → IsFresh n0 p0 → IsPlayable content → names ≡ content.names → lines ≡ content.lines → LinesPlayed p0 p1 w0 w1 names lines
-    → p2 ≡ record p1 { marks = p1.marks ++ length p1.session.history ∷ [] } → bytes ≡ as_text (codes "end" ∷ (book_lines (rev_in p1.session.revs) p1.session.book ++ status_lines p1.session.book)) → AppendsAll w1 bytes w2
-    → (text : List ℕ) × (IsPlayed n0 [] content 0 p2.session.history p2.marks text × AppendsAll w0 text w2)
-fresh-played n0 content p0 p1 p2 w0 w1 w2 names lines bytes fr ok en el f e2 eb w =
-    all-played n0 content p0 p1 p2 w0 w1 w2 bytes (first-distinct n0 p0 fr) fr.history fr.marks (fresh-way n0 content p0 p1 w0 w1 names lines fr ok en el f).so_far (ap (λ p. p.session) e2) (ap (λ p. p.marks) e2) eb w
+pub fresh-played : (n0 : Parts) (content : Content) (p0 p1 p2 : Player) (w0 w1 w2 : Option (List ℕ)) (names : List (List ℕ)) (lines : List ScriptLine) → IsFresh n0 p0 → IsPlayable content → names ≡ content.names → lines ≡ content.lines → LinesPlayed p0 p1 w0 w1 names lines
+    → (IsSession n0 p1.session → EndsWritten n0 p1 p2 w1 w2) → (text : List ℕ) × (IsPlayed n0 [] content 0 p2.session.history p2.marks text × AppendsAll w0 text w2)
+fresh-played n0 content p0 p1 p2 w0 w1 w2 names lines fr ok en el f end =
+    let way : IsOnTheWay (game n0 content) content.lines [] p0 p1 (begun [] []) w0 w1 = fresh-way n0 content p0 p1 w0 w1 names lines fr ok en el f in
+    let e : EndsWritten n0 p1 p2 w1 w2 = end way.so_far.stands.session in
+    all-played n0 content p0 p1 p2 w0 w1 w2 (first-distinct n0 p0 fr) fr.history fr.marks way.so_far e.ended e.written
 
 -- the end could not be written
 pub fresh-cut : (n0 : Parts) (content : Content) (p0 p1 p2 : Player) (w0 w1 : Option (List ℕ)) (names : List (List ℕ)) (lines : List ScriptLine) → IsFresh n0 p0 → IsPlayable content → names ≡ content.names → lines ≡ content.lines → LinesPlayed p0 p1 w0 w1 names lines
-    → p2 ≡ record p1 { marks = p1.marks ++ length p1.session.history ∷ [] } → IsHistory n0 0 p2.session.history p2.marks
-fresh-cut n0 content p0 p1 p2 w0 w1 names lines fr ok en el f e2 =
-    let st : Stands (game n0 content) p1 _ = (fresh-way n0 content p0 p1 w0 w1 names lines fr ok en el f).so_far.stands in
-    rw e2 (record { legal = st.session.legal; marked = marks-push 0 p1.marks (length p1.session.history) (zero-least (length p1.session.history)) st.marks; others = st.run })
+    → (IsSession n0 p1.session → HasEnded n0 p1 p2) → IsHistory n0 0 p2.session.history p2.marks
+fresh-cut n0 content p0 p1 p2 w0 w1 names lines fr ok en el f end =
+    let way : IsOnTheWay (game n0 content) content.lines [] p0 p1 (begun [] []) w0 w1 = fresh-way n0 content p0 p1 w0 w1 names lines fr ok en el f in
+    history-of (game n0 content) p2 _ (ended-stands (game n0 content) p1 p2 way.so_far.stage way.so_far.stands (end way.so_far.stands.session))

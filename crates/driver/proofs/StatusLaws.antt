@@ -1,29 +1,118 @@
 -- The printed states of the cells, one after the other.
-use Rattle.std.proofs.Common.{◌≡◌, ℕ, ◌+◌, ◌<◌, ◌==◌, true, false, if◌then◌else◌, List, [], ◌∷◌, ◌++◌, length, drop, get_or, codes, sym, ap, ◌∙◌, append_assoc}
+use Rattle.std.proofs.Common.{◌≡◌, ℕ, ◌+◌, ◌<◌, ◌==◌, Bool, true, false, if◌then◌else◌, List, [], ◌∷◌, ◌++◌, length, drop, get_or, map, Option, Some, None, is_some, codes, refl, sym, ap, subst, ◌∙◌, append_assoc, arith}
+use Rattle.std.proofs.lemmas.Bool.Decides.{nat_tests}
+use Rattle.std.specs.Prelude.{find, ◌||◌, option_map, unwrap_or}
+use Rattle.std.specs.Option.{option_copied}
+use Rattle.std.specs.List.{list_any}
+use Rattle.std.proofs.lemmas.Bool.{or_left, or_right, or_cases, and_from}
 use Rattle.std.proofs.lemmas.List.{drop_more}
 use Rattle.std.proofs.lemmas.Grind.{flat_map-append}
+use Rattle.ex_model.specs.declared.ran.Shown.{Shown}
 use Rattle.notebook.specs.declared.parts.Cell.{Cell}
 use Rattle.notebook.specs.declared.parts.Section.{Section}
+use Rattle.notebook.specs.declared.parts.Parts.{Parts}
+use Rattle.notebook.specs.declared.parts.Kind.{Kind}
+use Rattle.notebook.specs.declared.parts.Kind.TheVariants.{Setup, Code, Markdown}
+use Rattle.notebook.specs.declared.states.Lane.{Lane}
+use Rattle.notebook.specs.declared.states.Lane.TheVariants.{Main}
+use Rattle.notebook.specs.Flow.{Passed, path, passed, flow_in, lane_of, section_lane, is_cell, is_code_kind, is_code_numbered, has_code}
+use Rattle.notebook.specs.Validity.{validity_by, status_by}
+use Rattle.session_ops.specs.Work.{Work, is_in, is_running, last_finished, path_read}
 use Rattle.transcript.specs.Texts.{as_text, ended_line}
-use Rattle.driver.specs.Transcript.{lane_text, status_line, status_of_kind, cell_statuses, section_statuses, setup_status}
+use Rattle.transcript.specs.States.{state_line}
+use Rattle.main_lane.specs.declared.lane.Row.{Row}
+use Rattle.main_lane.specs.Tracks.{IsRowBy, IsRow}
+use Rattle.driver.specs.Statuses.{HasPath, HasPathIfCode, AllHavePaths, AllSectionsHavePaths, cell_line, line_of_kind, code_lines, section_code_lines, setup_line, shown_in}
 
 -- one more cell
-pub cells-more : (lane : List ℕ) (cs : List Cell) (i : ℕ) (c : Cell) (out : List ℕ) → i < length cs → c ≡ get_or cs i c → (out ++ as_text (status_of_kind lane c c.kind)) ++ as_text (cell_statuses lane (drop (i + 1) cs)) ≡ out ++ as_text (cell_statuses lane (drop i cs))
-cells-more lane cs i c out lt is =
+pub cells-more : (n : Parts) (w : Work) (lane : Lane) (cs : List Cell) (i : ℕ) (c : Cell) (out : List ℕ) → i < length cs → c ≡ get_or cs i c → (out ++ as_text (line_of_kind n w lane c c.kind)) ++ as_text (code_lines n w lane (drop (i + 1) cs)) ≡ out ++ as_text (code_lines n w lane (drop i cs))
+cells-more n w lane cs i c out lt is =
     let front : drop i cs ≡ c ∷ drop (i + 1) cs = drop_more cs i c lt ∙ ap (λ x. x ∷ drop (i + 1) cs) (sym is) in
-    append_assoc out (as_text (status_of_kind lane c c.kind)) (as_text (cell_statuses lane (drop (i + 1) cs)))
-    ∙ ap (λ x. out ++ x) (sym (flat_map-append ended_line (status_of_kind lane c c.kind) (cell_statuses lane (drop (i + 1) cs))) ∙ ap (λ x. as_text (cell_statuses lane x)) (sym front))
+    append_assoc out (as_text (line_of_kind n w lane c c.kind)) (as_text (code_lines n w lane (drop (i + 1) cs)))
+    ∙ ap (λ x. out ++ x) (sym (flat_map-append ended_line (line_of_kind n w lane c c.kind) (code_lines n w lane (drop (i + 1) cs))) ∙ ap (λ x. as_text (code_lines n w lane x)) (sym front))
 
 -- one more section
-pub sections-more : (ss : List Section) (i : ℕ) (s : Section) (out : List ℕ) → i < length ss → s ≡ get_or ss i s → (out ++ as_text (cell_statuses (lane_text s s.parent) s.cells)) ++ as_text (section_statuses (drop (i + 1) ss)) ≡ out ++ as_text (section_statuses (drop i ss))
-sections-more ss i s out lt is =
+pub sections-more : (n : Parts) (w : Work) (ss : List Section) (i : ℕ) (s : Section) (out : List ℕ) → i < length ss → s ≡ get_or ss i s
+    → (out ++ as_text (code_lines n w (section_lane s) s.cells)) ++ as_text (section_code_lines n w (drop (i + 1) ss)) ≡ out ++ as_text (section_code_lines n w (drop i ss))
+sections-more n w ss i s out lt is =
     let front : drop i ss ≡ s ∷ drop (i + 1) ss = drop_more ss i s lt ∙ ap (λ x. x ∷ drop (i + 1) ss) (sym is) in
-    append_assoc out (as_text (cell_statuses (lane_text s s.parent) s.cells)) (as_text (section_statuses (drop (i + 1) ss)))
-    ∙ ap (λ x. out ++ x) (sym (flat_map-append ended_line (cell_statuses (lane_text s s.parent) s.cells) (section_statuses (drop (i + 1) ss))) ∙ ap (λ x. as_text (section_statuses x)) (sym front))
+    append_assoc out (as_text (code_lines n w (section_lane s) s.cells)) (as_text (section_code_lines n w (drop (i + 1) ss)))
+    ∙ ap (λ x. out ++ x) (sym (flat_map-append ended_line (code_lines n w (section_lane s) s.cells) (section_code_lines n w (drop (i + 1) ss))) ∙ ap (λ x. as_text (section_code_lines n w x)) (sym front))
 
 -- the setup cell's line where its source isn't empty
-pub setup-some : (c : Cell) → false ≡ (length c.source == 0) → as_text (setup_status c) ≡ ended_line (status_line (codes "main") c) ++ []
-setup-some c e = ap (λ b. as_text (if b then [] else status_line (codes "main") c ∷ [])) (sym e)
+pub setup-some : (n : Parts) (w : Work) (c : Cell) → false ≡ (length c.source == 0) → as_text (setup_line n w c) ≡ ended_line (cell_line n w Main c.id) ++ []
+setup-some n w c e = ap (λ b. as_text (if b then [] else cell_line n w Main c.id ∷ [])) (sym e)
 
-pub setup-none : (c : Cell) → true ≡ (length c.source == 0) → as_text (setup_status c) ≡ []
-setup-none c e = ap (λ b. as_text (if b then [] else status_line (codes "main") c ∷ [])) (sym e)
+pub setup-none : (n : Parts) (w : Work) (c : Cell) → true ≡ (length c.source == 0) → as_text (setup_line n w c) ≡ []
+setup-none n w c e = ap (λ b. as_text (if b then [] else cell_line n w Main c.id ∷ [])) (sym e)
+
+-- a cell of a list, and a section
+pub paths-at : (n : Parts) (cs : List Cell) (i : ℕ) (c : Cell) → AllHavePaths n (drop i cs) → i < length cs → c ≡ get_or cs i c → HasPathIfCode n c c.kind × AllHavePaths n (drop (i + 1) cs)
+paths-at n cs i c h lt is =
+    let front : drop i cs ≡ c ∷ drop (i + 1) cs = drop_more cs i c lt ∙ ap (λ x. x ∷ drop (i + 1) cs) (sym is) in
+    let k : AllHavePaths n (c ∷ drop (i + 1) cs) = subst (AllHavePaths n) front h in
+    (k.0, k.1)
+
+pub section-paths-at : (n : Parts) (ss : List Section) (i : ℕ) (s : Section) → AllSectionsHavePaths n (drop i ss) → i < length ss → s ≡ get_or ss i s → AllHavePaths n s.cells × AllSectionsHavePaths n (drop (i + 1) ss)
+section-paths-at n ss i s h lt is =
+    let front : drop i ss ≡ s ∷ drop (i + 1) ss = drop_more ss i s lt ∙ ap (λ x. x ∷ drop (i + 1) ss) (sym is) in
+    let k : AllSectionsHavePaths n (s ∷ drop (i + 1) ss) = subst (AllSectionsHavePaths n) front h in
+    (k.0, k.1)
+
+-- a cell of a lane has a path
+some-mapped : {X Y : Type 0} (f : X → Y) (o : Option X) → is_some o ≡ true → is_some (option_map f o) ≡ true
+some-mapped f None e = absurd (cc e)
+some-mapped f (Some x) e = refl
+
+lane-path : (n : Parts) (id : ℕ) → is_some (lane_of n id) ≡ true → HasPath n id
+lane-path n id e = some-mapped (map passed) (option_map (flow_in n id) (lane_of n id)) (some-mapped (flow_in n id) (lane_of n id) e)
+
+some-found : {X : Type 0} (p : X → Bool) (xs : List X) → list_any p xs ≡ true → is_some (find p xs) ≡ true
+some-found p [] e = absurd (cc e)
+some-found p (x ∷ xs) e = elim (p x) as (λ b. (b || list_any p xs) ≡ true → is_some (if b then Some x else find p xs) ≡ true) [ true ↦ λ k. refl | false ↦ λ k. some-found p xs k ] e
+
+lane-of : (b : Bool) (o : Option Lane) → is_some o ≡ true → is_some (if b then Some Main else o) ≡ true
+lane-of true o e = refl
+lane-of false o e = e
+
+code-path : (n : Parts) (id : ℕ) → list_any (has_code id) n.sections ≡ true → HasPath n id
+code-path n id e = lane-path n id (lane-of (is_cell id n.setup) (option_map section_lane (find (has_code id) n.sections)) (some-mapped section_lane (find (has_code id) n.sections) (some-found (has_code id) n.sections e)))
+
+equal-self : (n : ℕ) → (n == n) ≡ true
+equal-self n = grind (arith, nat_tests)
+
+kind-path : (n : Parts) (c : Cell) (kind : Kind) → c.kind ≡ kind → (is_code_numbered c.id c ≡ true → HasPath n c.id) → HasPathIfCode n c kind
+kind-path n c Setup e f = tt
+kind-path n c Code e f = f (and_from _ _ (ap is_code_kind e) (equal-self c.id))
+kind-path n c Markdown e f = tt
+
+cells-paths : (n : Parts) (cs : List Cell) → ((id : ℕ) → list_any (is_code_numbered id) cs ≡ true → HasPath n id) → AllHavePaths n cs
+cells-paths n [] f = tt
+cells-paths n (c ∷ cs) f = (kind-path n c c.kind refl (λ e. f c.id (or_left _ _ e)), cells-paths n cs (λ id e. f id (or_right _ _ e)))
+
+sections-paths : (n : Parts) (ss : List Section) → ((id : ℕ) → list_any (has_code id) ss ≡ true → HasPath n id) → AllSectionsHavePaths n ss
+sections-paths n [] f = tt
+sections-paths n (s ∷ ss) f = (cells-paths n s.cells (λ id e. f id (or_left _ _ e)), sections-paths n ss (λ id e. f id (or_right _ _ e)))
+
+-- each code cell of a notebook has a path, and so has the setup cell
+pub all-paths : (n : Parts) → AllSectionsHavePaths n n.sections
+all-paths n = sections-paths n n.sections (code-path n)
+
+pub setup-path : (n : Parts) → HasPath n n.setup.id
+setup-path n = lane-path n n.setup.id (ap (λ b. is_some (if b then Some Main else option_map section_lane (find (has_code n.setup.id) n.sections))) {y = true} (equal-self n.setup.id))
+
+row-by : (n : Parts) (w : Work) (home : Lane) (cell : ℕ) (r : Row) (o : Option (List Passed)) → is_some o ≡ true → IsRowBy w cell o (Some r)
+    → state_line cell home r.status r.validity (option_copied r.shown) ≡ state_line cell home (status_by (is_running w cell) (is_in cell w.queued)) (validity_by (is_in cell w.aborted) (option_map path_read (last_finished w cell)) (unwrap_or o [])) (option_map shown_in (last_finished w cell))
+row-by n w home cell r None some is = absurd (cc some)
+row-by n w home cell r (Some present) some is = rw (is.status, is.validity, is.shown) refl
+
+no-row-by : (w : Work) (cell : ℕ) (o : Option (List Passed)) → is_some o ≡ true → ¬ IsRowBy w cell o None
+no-row-by w cell None some is = cc some
+no-row-by w cell (Some present) some is = is
+
+-- a cell's line by its row
+pub row-line : (n : Parts) (w : Work) (home : Lane) (cell : ℕ) (r : Row) → HasPath n cell → IsRow n w cell (Some r) → state_line cell home r.status r.validity (option_copied r.shown) ≡ cell_line n w home cell
+row-line n w home cell r some is = row-by n w home cell r (path n cell) some is
+
+pub no-row : (n : Parts) (w : Work) (cell : ℕ) → HasPath n cell → ¬ IsRow n w cell None
+no-row n w cell some is = no-row-by w cell (path n cell) some is

@@ -1,8 +1,9 @@
 -- How playing a script ends.
-use Rattle.std.specs.Prelude.{◌≡◌, ℕ, List, [], ◌∷◌, ◌++◌, length, codes, Option, None}
-use Rattle.transcript.specs.Texts.{as_text, book_lines, rev_in}
-use Rattle.driver.specs.Transcript.{status_lines}
-use Rattle.driver.specs.Session.{IsSession}
+use Rattle.std.specs.Prelude.{◌≡◌, ℕ, List, [], ◌∷◌, ◌++◌, length, Option, None}
+use Rattle.session_ops.specs.State.{state}
+use Rattle.transcript.specs.Texts.{as_text}
+use Rattle.driver.specs.Transcript.{end_lines}
+use Rattle.driver.specs.Session.{IsSession, HasSettled}
 use Rattle.driver.specs.declared.player.Player.{Player}
 use Rattle.book_outside.specs.Outside.{Rose, AppendsAll}
 use Rattle.notebook.specs.declared.parts.Parts.{Parts}
@@ -19,10 +20,16 @@ pub record IsFresh (n0 : Parts) (p : Player) : Type 0 where
   pub client : p.client ≡ None
   pub marks : p.marks ≡ []
 
--- the end left a mark, and what it prints was written
-pub record EndsWritten (old new : Player) (before after : Option (List ℕ)) : Type 0 where
-  pub mark : new ≡ record old { marks = old.marks ++ length old.session.history ∷ [] }
-  pub written : AppendsAll before (as_text (codes "end" ∷ (book_lines (rev_in old.session.revs) old.session.book ++ status_lines old.session.book))) after
+-- the end settled, and left a mark
+pub record HasEnded (n0 : Parts) (old new : Player) : Type 0 where
+  pub settled : HasSettled n0 1 old.session new.session
+  pub client : new.client ≡ old.client
+  pub marks : new.marks ≡ old.marks ++ length new.session.history ∷ []
+
+-- and what it prints was written
+pub record EndsWritten (n0 : Parts) (old new : Player) (before after : Option (List ℕ)) : Type 0 where
+  pub ended : HasEnded n0 old new
+  pub written : AppendsAll before (as_text (end_lines (state n0 new.session.history))) after
 
 -- the script was played, and its transcript written
 pub record IsPlayedOut (n0 : Parts) (content : Content) (before after : Option (List ℕ)) (report : Report) : Type 0 where

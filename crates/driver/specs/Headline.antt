@@ -1,23 +1,29 @@
 -- What a run of a script says: it prints the transcript of one actual history.
-use Rattle.std.specs.Prelude.{◌≡◌, ℕ, ◌+◌, ◌<◌, ◌⊎◌, List, [], ◌∷◌, ◌++◌, length, map, Option, Some, None}
+use Rattle.std.specs.Prelude.{◌≡◌, ℕ, ◌+◌, ◌<◌, ◌⊎◌, true, List, [], ◌∷◌, ◌++◌, length, map, Option, Some, None}
 use Rattle.delta.specs.declared.Step.{Step}
 use Rattle.delta.specs.Moves.{text_after}
 use Rattle.notebook.specs.declared.parts.Cell.{Cell}
 use Rattle.notebook.specs.declared.parts.Parts.{Parts}
 use Rattle.notebook.specs.Book.{cells, found}
 use Rattle.session_ops.specs.declared.entry.Call.{Call}
-use Rattle.session_ops.specs.declared.entry.Call.TheVariants.{Client as ByClient}
+use Rattle.session_ops.specs.declared.entry.Call.TheVariants.{Client as ByClient, Start, Respond}
 use Rattle.session_ops.specs.declared.entry.Entry.{Entry}
-use Rattle.session_ops.specs.State.{State, Legal, state, first_source, taken_by, entries_by, misfit}
+use Rattle.session_ops.specs.declared.entry.Reply.{Reply}
+use Rattle.session_ops.specs.declared.entry.Reply.TheVariants.{Started}
+use Rattle.notebook.specs.Flow.{Passed, path}
+use Rattle.session_ops.specs.Work.{Finished, last_finished, is_evaluated}
+use Rattle.session_ops.specs.State.{State, Legal, state, first_source, taken_by, entries_by, misfit, ShowsAlong}
 use Rattle.client_sync.specs.Client.{Client, Pending, delivered, held}
 use Rattle.script.specs.declared.content.Content.{Content}
 use Rattle.driver.specs.Turns.{AreMarks}
 use Rattle.driver.specs.Player.{Stage}
 use Rattle.driver.specs.Transcript.{finished, transcript}
 
--- calls that evaluators make: there are none yet
+-- calls that evaluators make
 abbrev pub IsEvaluation : Call → Type 0
 IsEvaluation (ByClient n op) = ⊥
+IsEvaluation (Start lane) = Unit {0}
+IsEvaluation (Respond eval shown) = Unit {0}
 
 -- an entry of the script's player, or an evaluator's
 abbrev pub IsOfRun : ℕ → Entry → Type 0
@@ -59,13 +65,38 @@ abbrev pub AllGrown : State → List Cell → Type 0
 AllGrown s [] = Unit {0}
 AllGrown s (c ∷ cs) = (c.source ≡ text_after_all (first_source c.id s.began) (taken_by c.id s.taken)) × AllGrown s cs
 
--- a legal history with marks in their order, whose entries are the player's, under 0, or evaluators'
+-- each cell that is evaluated shows what one thread gives along its present path
+abbrev pub AllShow : State → Type 0
+AllShow s = (cell : ℕ) (present : List Passed) (f : Finished) → path s.book cell ≡ Some present → last_finished s.work cell ≡ Some f → is_evaluated s.book s.work cell ≡ true → ShowsAlong present f.shown
+
+-- the call answers the evaluation of the number
+abbrev pub IsAnswerOf : ℕ → Call → Type 0
+IsAnswerOf eval (ByClient n op) = ⊥
+IsAnswerOf eval (Start lane) = ⊥
+IsAnswerOf eval (Respond number shown) = number ≡ eval
+
+abbrev pub IsAnsweredNext : ℕ → List Entry → Type 0
+IsAnsweredNext eval [] = ⊥
+IsAnsweredNext eval (e ∷ es) = IsAnswerOf eval e.call
+
+-- an evaluation that begins with this reply is answered by the next entry
+abbrev pub IsFollowed : Reply → List Entry → Type 0
+IsFollowed (Started eval cell) es = IsAnsweredNext eval es
+IsFollowed answer es = Unit {0}
+
+-- each evaluation is answered by the entry after its start
+abbrev pub AllAnswered : List Entry → Type 0
+AllAnswered [] = Unit {0}
+AllAnswered (e ∷ es) = IsFollowed e.reply es × AllAnswered es
+
+-- a legal history with marks in their order, whose entries are the player's, under 0, or evaluators', each of whose answers follows its start
 pub record IsHistory (n0 : Parts) (workers : ℕ) (h : List Entry) (marks : List ℕ) : Type 0 where
   pub legal : Legal n0 h
   pub marked : AreMarks 0 marks (length h)
   pub others : AllOfRun workers h
+  pub answered : AllAnswered h
 
--- a run that was played to its end: what is printed; the stage at the end, whose calls are the player's entries in order, each once (so each posted message has one entry); its clients; and each source, with each accepted delta in it once
+-- a run that was played to its end: what is printed; the stage at the end, whose calls are the player's entries in order, each once (so each posted message has one entry); its clients; each source, with each accepted delta in it once; and what each evaluated cell shows
 pub record IsPlayed (n0 : Parts) (notices : List (List ℕ)) (script : Content) (workers : ℕ) (h : List Entry) (marks : List ℕ) (text : List ℕ) : Type 0 where
   pub history : IsHistory n0 workers h marks
   pub printed : transcript n0 notices script h marks ≡ Some text
@@ -74,3 +105,4 @@ pub record IsPlayed (n0 : Parts) (notices : List (List ℕ)) (script : Content) 
   pub calls : stage.asked ≡ map call_of (entries_by h 0)
   pub clients : AllClients n0 h stage.clients
   pub once : AllGrown (state n0 h) (cells (state n0 h).book)
+  pub evaluated : AllShow (state n0 h)

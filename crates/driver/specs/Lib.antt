@@ -11,3 +11,4 @@ pub mod Session
 pub mod Standing
 pub mod Transcript
 pub mod Turns
+pub mod Statuses

@@ -19,6 +19,9 @@ no_client_words name word = name ++ (codes " " ++ (word ++ codes ": refused NotJ
 abbrev pub edit_words : List ℕ → ℕ → List ℕ → List ℕ
 edit_words name cell answer = name ++ (codes " edit " ++ (decimal cell ++ (codes ": " ++ answer)))
 
+abbrev pub posted_words : List ℕ → List ℕ
+posted_words name = name ++ codes " post: ok"
+
 abbrev pub sent_words : List ℕ → Reply → List ℕ
 sent_words name answer = name ++ (codes " sent: " ++ reply_text answer)
 

@@ -5,18 +5,22 @@ use Rattle.std.specs.Str.{encode_utf8_all}
 use Rattle.delta.specs.declared.Step.{Step}
 use Rattle.notebook.specs.declared.parts.Parts.{Parts}
 use Rattle.session_ops.specs.declared.entry.Op.{Op}
-use Rattle.session_ops.specs.declared.entry.Op.TheVariants.{Join as Joins}
+use Rattle.session_ops.specs.declared.entry.Op.TheVariants.{Join as Joins, Queue as Queues}
 use Rattle.session_ops.specs.declared.entry.Call.{Call}
 use Rattle.session_ops.specs.declared.entry.Call.TheVariants.{Client as ByClient}
 use Rattle.session_ops.specs.declared.entry.Reply.{Reply}
 use Rattle.session_ops.specs.declared.entry.Reply.TheVariants.{Accepted}
 use Rattle.session_ops.specs.declared.entry.Entry.{Entry}
-use Rattle.session_ops.specs.State.{revision, refusal_of}
+use Rattle.session_ops.specs.Work.{is_idle}
+use Rattle.session_ops.specs.State.{State, state, revision, refusal_of}
 use Rattle.session_ops.specs.Same.{same_call}
-use Rattle.client_sync.specs.Client.{Client, Edited, Done, NoCell, EditTooLong, Unfit, edited, received, held, delivered, joined_client, client_of, put_client}
+use Rattle.client_sync.specs.Client.{Client, Edited, Done, NoCell, EditTooLong, Unfit, edited, received, held, delivered, joined_client, client_of, put_client, with_message}
 use Rattle.transcript.specs.Texts.{refusal_text, reply_text, book_lines, as_text}
 use Rattle.script.specs.declared.line.ScriptLine.{ScriptLine}
-use Rattle.script.specs.declared.line.ScriptLine.TheVariants.{Join, Edit, Sync, Show}
+use Rattle.script.specs.declared.line.ScriptLine.TheVariants.{Join, Edit, Post, Sync, Show, Settle, Cells}
+use Rattle.script.specs.declared.line.PostedOp.{PostedOp}
+use Rattle.script.specs.declared.line.PostedOp.TheVariants.{Queue}
+use Rattle.driver.specs.Statuses.{status_lines}
 use Rattle.driver.specs.Turns.{Turn, Made, Looked}
 
 -- what is played over: the opening notebook, and the clients' names
@@ -110,6 +114,17 @@ abbrev pub play_edit : Game → ℕ → ℕ → List Step → Stage → Option C
 play_edit g n cell d s None = no_client g n (codes "edit") s
 play_edit g n cell d s (Some c) = with_edited g n cell s (edited g.opening c cell d)
 
+-- post: one more message waits to be sent
+abbrev pub op_of : PostedOp → Op
+op_of (Queue cell) = Queues cell
+
+abbrev pub post_line : Game → ℕ → List ℕ
+post_line g n = name_of g n ++ codes " post: ok"
+
+abbrev pub play_post : Game → ℕ → Op → Stage → Option Client → Stage
+play_post g n op s None = no_client g n (codes "post") s
+play_post g n op s (Some c) = say (post_line g n ∷ []) (with_clients (put_client (with_message c op) s.clients) s)
+
 -- the messages of a client's outbox are taken from its front, one entry each
 abbrev pub sent_line : Game → ℕ → Reply → List ℕ
 sent_line g n answer = name_of g n ++ (codes " sent: " ++ reply_text answer)
@@ -157,12 +172,35 @@ abbrev pub play_show : Game → ℕ → Stage → Option Client → Stage
 play_show g n s None = no_client g n (codes "show") s
 play_show g n s (Some c) = say (book_lines (revision (delivered g.opening c)) (held g.opening c)) s
 
+-- settle: a look at which nothing is queued and nothing runs; what was evaluated before it is the evaluators'
+abbrev pub state_at : Game → Marked → State
+state_at g m = state g.opening m.seen
+
+abbrev pub if_idle : Game → Marked → Option Stage
+if_idle g m = if is_idle (state_at g m).work then Some m.stage else None
+
+abbrev pub settled : Game → Stage → Option Stage
+settled g s = or_none (looks s) (if_idle g)
+
+abbrev pub play_settle : Game → Stage → Option Stage
+play_settle g s = or_none (settled g s) (λ t. Some (say (codes "settled" ∷ []) t))
+
+-- cells: a look at the states of the cells
+abbrev pub states_at : State → List (List ℕ)
+states_at st = status_lines st.book st.work
+
+abbrev pub play_cells : Game → Stage → Option Stage
+play_cells g s = or_none (looks s) (λ m. Some (say (states_at (state_at g m)) m.stage))
+
 -- what a line makes of the stage; nothing where a turn doesn't fit
 abbrev pub play_line : Game → ScriptLine → Stage → Option Stage
 play_line g (Join n) s = play_join g n s
 play_line g (Edit n cell d) s = Some (play_edit g n cell d s (client_of n s.clients))
+play_line g (Post n op) s = Some (play_post g n (op_of op) s (client_of n s.clients))
 play_line g Sync s = rounds (length s.turns) g s
 play_line g (Show n) s = Some (play_show g n s (client_of n s.clients))
+play_line g Settle s = play_settle g s
+play_line g Cells s = play_cells g s
 
 abbrev pub play : Game → List ScriptLine → Stage → Option Stage
 play g [] s = Some s

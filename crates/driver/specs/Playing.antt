@@ -1,7 +1,7 @@
 -- What some lines of a script make of the player, and what is written of them.
 use Rattle.std.specs.Prelude.{◌≡◌, ℕ, Bool, false, List, [], ◌++◌, Option, Some, None, ◌⊎◌}
 use Rattle.script.specs.declared.line.ScriptLine.{ScriptLine}
-use Rattle.script.specs.declared.line.ScriptLine.TheVariants.{Join, Edit, Sync, Show}
+use Rattle.script.specs.declared.line.ScriptLine.TheVariants.{Join, Edit, Post, Sync, Show, Settle, Cells}
 use Rattle.script.specs.Play.{GoesOn, Begins}
 use Rattle.book_outside.specs.Outside.{AppendsAll}
 use Rattle.driver.specs.Turns.{Turn, turns_from}
@@ -14,8 +14,11 @@ use Rattle.driver.specs.declared.player.Player.{Player}
 abbrev pub IsReady : Bool → Option Client → ScriptLine → Type 0
 IsReady edited o (Join n) = (n ≡ 0) × (o ≡ None)
 IsReady edited o (Edit n cell d) = (n ≡ 0) × (edited ≡ false)
+IsReady edited o (Post n op) = n ≡ 0
 IsReady edited o Sync = Unit {0}
 IsReady edited o (Show n) = n ≡ 0
+IsReady edited o Settle = Unit {0}
+IsReady edited o Cells = Unit {0}
 
 -- lines that may be played: they go on, or nobody has joined and they begin
 abbrev pub MayFollow : Bool → Option Client → List ScriptLine → Type 0

@@ -1,10 +1,5 @@
 -- What a script prints over a history.
-use Rattle.std.specs.Prelude.{ℕ, ◌==◌, if◌then◌else◌, List, [], ◌∷◌, ◌++◌, length, Option, Some, None, codes}
-use Rattle.std.specs.Fmt.{decimal}
-use Rattle.notebook.specs.declared.parts.Cell.{Cell}
-use Rattle.notebook.specs.declared.parts.Section.{Section}
-use Rattle.notebook.specs.declared.parts.Kind.{Kind}
-use Rattle.notebook.specs.declared.parts.Kind.TheVariants.{Setup, Code, Markdown}
+use Rattle.std.specs.Prelude.{ℕ, List, [], ◌∷◌, ◌++◌, Option, Some, None, codes}
 use Rattle.notebook.specs.declared.parts.Parts.{Parts}
 use Rattle.session_ops.specs.declared.entry.Entry.{Entry}
 use Rattle.session_ops.specs.State.{State, state, revision}
@@ -12,7 +7,8 @@ use Rattle.transcript.specs.Texts.{book_lines, as_text}
 use Rattle.script.specs.declared.line.ScriptLine.{ScriptLine}
 use Rattle.script.specs.declared.content.Content.{Content}
 use Rattle.driver.specs.Turns.{Turn, turns_from}
-use Rattle.driver.specs.Player.{Game, Stage, or_none, play, looks}
+use Rattle.driver.specs.Statuses.{status_lines}
+use Rattle.driver.specs.Player.{Game, Stage, or_none, play, settled}
 
 abbrev pub game : Parts → Content → Game
 game n0 script = record { opening = n0; names = script.names }
@@ -25,47 +21,13 @@ begun h marks = record { turns = turns_from [] h marks; clients = []; asked = []
 abbrev pub stage_after : Parts → Content → List ScriptLine → List Entry → List ℕ → Option Stage
 stage_after n0 script lines h marks = play (game n0 script) lines (begun h marks)
 
--- the end settles without a line: one look, at which no cell is queued or evaluated
-abbrev pub settled : Game → Stage → Option Stage
-settled g s = or_none (looks s) (λ m. Some m.stage)
-
--- the stage after all lines and the end's settling
+-- the stage after all lines and the end, which settles without a line
 abbrev pub finished : Parts → Content → List Entry → List ℕ → Option Stage
 finished n0 script h marks = or_none (stage_after n0 script script.lines h marks) (settled (game n0 script))
 
--- a cell's lane: the main flow, or the branch of its section
-abbrev pub lane_text : Section → Option ℕ → List ℕ
-lane_text s None = codes "main"
-lane_text s (Some parent) = codes "branch " ++ decimal s.id
-
--- nothing is evaluated yet
-abbrev pub status_line : List ℕ → Cell → List ℕ
-status_line lane c = codes "code " ++ (decimal c.id ++ (codes " " ++ (lane ++ codes " ready fresh")))
-
-abbrev pub status_of_kind : List ℕ → Cell → Kind → List (List ℕ)
-status_of_kind lane c Setup = []
-status_of_kind lane c Code = status_line lane c ∷ []
-status_of_kind lane c Markdown = []
-
-abbrev pub cell_statuses : List ℕ → List Cell → List (List ℕ)
-cell_statuses lane [] = []
-cell_statuses lane (c ∷ cs) = status_of_kind lane c c.kind ++ cell_statuses lane cs
-
-abbrev pub section_statuses : List Section → List (List ℕ)
-section_statuses [] = []
-section_statuses (s ∷ ss) = cell_statuses (lane_text s s.parent) s.cells ++ section_statuses ss
-
--- the setup cell's line is left out where its source is empty
-abbrev pub setup_status : Cell → List (List ℕ)
-setup_status c = if length c.source == 0 then [] else status_line (codes "main") c ∷ []
-
--- the states of the setup and code cells in notebook order
-abbrev pub status_lines : Parts → List (List ℕ)
-status_lines n = setup_status n.setup ++ section_statuses n.sections
-
 -- the end: the server's notebook, and the states of its cells
 abbrev pub end_lines : State → List (List ℕ)
-end_lines s = codes "end" ∷ (book_lines (revision s) s.book ++ status_lines s.book)
+end_lines s = codes "end" ∷ (book_lines (revision s) s.book ++ status_lines s.book s.work)
 
 -- all that is printed, where all turns are used up
 abbrev pub ending : Parts → List (List ℕ) → List Entry → Stage → List Turn → Option (List ℕ)

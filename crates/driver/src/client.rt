@@ -1,12 +1,13 @@
 //! A client: what it holds, and the edit that it has posted.
-ghost use Rattle.std.specs.Prelude.{◌≡◌, ◌≢◌, ℕ, ◌+◌, ◌∷◌, [], ◌++◌, List, IfOk, OnOk, OnErr, MatchResult, Some, None, true};
+ghost use Rattle.std.specs.Prelude.{◌≡◌, ◌≢◌, ℕ, ◌+◌, ◌∷◌, [], ◌++◌, List, IfOk, OnOk, OnErr, MatchResult, true};
 ghost use Rattle.notebook.specs.declared.parts.Parts.{Parts};
 ghost use Rattle.session_ops.specs.declared.entry.Entry.{Entry};
-ghost use Rattle.session_ops.specs.State.{is_in, state};
+ghost use Rattle.session_ops.specs.Work.{is_in};
+ghost use Rattle.session_ops.specs.State.{state};
 ghost use Rattle.client_sync.specs.Client.{Client as Holder, Done, edited, joined_client};
 ghost use Rattle.client_sync.specs.Causes.{IsEditCause};
 ghost use Rattle.driver.specs.Session.{IsSession};
-ghost use Rattle.driver.specs.Holder.{Mirrors, IsOwnText, IsOwnFault, confirmed_by};
+ghost use Rattle.driver.specs.Holder.{Mirrors, IsOwnText, IsOwnFault, confirmed_by, confirmed_op, flights};
 
 use crate::revisions::raise;
 use crate::session::Session;
@@ -14,35 +15,27 @@ use client_sync::EditError;
 use delta::{ApplyError, Delta};
 use notebook::{CellId, Notebook};
 use plain_list::Items;
-use session_ops::Reply;
+use session_ops::{Op, Reply};
 use std::alloc::{AllocError, Global};
 use std::mem;
 use transcript::rev_in;
 use utf16_text::Text;
 
-/// An edit on its way to the server, with the revision at which it was made.
-#[derive(Drop)]
-pub(crate) struct Posted {
-    pub(crate) cell: CellId,
-    pub(crate) base: u64,
-    pub(crate) delta: Delta,
-}
-
-/// The client's own notebook, the revisions that it knows, and its posted edit.
+/// The client's own notebook, the revisions that it knows, and the messages that wait to be sent.
 #[derive(Drop)]
 pub(crate) struct Client {
     pub(crate) alloc: Global,
     pub(crate) number: u32,
     pub(crate) book: Notebook,
     pub(crate) revs: Items<(CellId, u64)>,
-    pub(crate) posted: Option<Posted>,
+    pub(crate) outbox: Items<Op>,
 }
 
 impl Client {
     /// A client that has just joined: it holds the server's notebook.
     pub(crate) fn join(session: &Session, number: u32) -> Result<Client, AllocError>
         ensures mirrors { (n0 : Parts) → IsSession n0 session.now → is_in number session.now.joined ≡ true → IfOk result (λ c. Mirrors n0 session.now.history c (joined_client number session.now.history)) }
-        ensures fresh { IfOk result (λ c. (c.number ≡ number) × (c.posted ≡ None)) }
+        ensures fresh { IfOk result (λ c. (c.number ≡ number) × (c.outbox ≡ [])) }
     {
         let revs = Vec::from_slice(session.alloc, session.revs.as_slice())?;
         Ok(Client {
@@ -50,14 +43,14 @@ impl Client {
             number,
             book: session.book.copy()?,
             revs: Items::from_vec(revs),
-            posted: None,
+            outbox: Items::new(session.alloc),
         })
     }
 
-    /// Edits a cell of the client's own notebook and posts the edit; an empty edit does nothing.
-    /// Nothing may be posted yet. After an error nothing is changed.
+    /// Edits a cell of the client's own notebook and posts the edit; an empty edit does nothing. No
+    /// edit may wait yet. After an error nothing is changed.
     pub(crate) fn edit(&mut self, cell: CellId, delta: &Delta) -> Result<(), EditError>
-        ensures ok { OnOk result ((n0 : Parts) → (h : List Entry) → (m : Holder) → Mirrors n0 h self.old m → self.old.posted ≡ None → (m' : Holder) × ((edited n0 m cell delta.now ≡ Done m') × Mirrors n0 h self.new m')) }
+        ensures ok { OnOk result ((n0 : Parts) → (h : List Entry) → (m : Holder) → Mirrors n0 h self.old m → flights self.old.outbox ≡ [] → (m' : Holder) × ((edited n0 m cell delta.now ≡ Done m') × Mirrors n0 h self.new m')) }
         ensures refused { MatchResult result (λ _. self.new.number ≡ self.old.number) (λ e. (n0 : Parts) → (h : List Entry) → (m : Holder) → Mirrors n0 h self.old m → IsEditCause (edited n0 m cell delta.now) e) }
         ensures err { OnErr result (self.new ≡ self.old) }
     {
@@ -67,8 +60,17 @@ impl Client {
         }
         let base = rev_in(self.revs.as_slice(), cell);
         let delta = copied(self.alloc, delta)?;
+        put(&mut self.outbox, Op::Delta { cell, base, delta })?;
         self.book.set_source(cell, text);
-        self.posted = Some(Posted { cell, base, delta });
+        Ok(())
+    }
+
+    /// Puts a message at the outbox's end. After want of memory nothing is changed.
+    pub(crate) fn post(&mut self, op: Op) -> Result<(), AllocError>
+        ensures ok { OnOk result (self.new ≡ record self.old { outbox = self.old.outbox ++ op ∷ [] }) }
+        ensures err { OnErr result (self.new ≡ self.old) }
+    {
+        self.outbox.push(op)?;
         Ok(())
     }
 
@@ -90,21 +92,42 @@ impl Client {
         }
     }
 
-    /// Takes the posted edit out.
-    pub(crate) fn take_posted(&mut self) -> Option<Posted>
-        ensures taken { result ≡ self.old.posted }
-        ensures left { self.new ≡ record self.old { posted = None } }
+    /// Takes all messages out.
+    pub(crate) fn take_outbox(&mut self) -> Items<Op>
+        ensures taken { result ≡ self.old.outbox }
+        ensures left { self.new ≡ record self.old { outbox = [] } }
     {
-        mem::replace(&mut self.posted, None)
+        mem::replace(&mut self.outbox, Items::new(self.alloc))
+    }
+
+    /// The answer to the client's own message: where it is an edit that was applied, the cell has its
+    /// revision.
+    pub(crate) fn confirm(&mut self, op: &Op, reply: &Reply)
+        ensures { self.new ≡ confirmed_op op.now reply.now self.old }
+    {
+        if let Op::Delta { cell, .. } = op {
+            self.confirm_edit(*cell, reply);
+        }
     }
 
     /// The answer to the client's own edit of a cell: where it was applied, the cell has its revision.
-    pub(crate) fn confirm(&mut self, cell: CellId, reply: &Reply)
+    fn confirm_edit(&mut self, cell: CellId, reply: &Reply)
         ensures { self.new ≡ confirmed_by cell reply.now self.old }
     {
         if let Reply::Applied { rev, .. } = reply {
             raise(&mut self.revs, cell, *rev);
         }
+    }
+}
+
+/// Puts a message at the end.
+fn put(outbox: &mut Items<Op>, op: Op) -> Result<(), EditError>
+    ensures ok { MatchResult result (λ _. outbox.new ≡ outbox.old ++ op ∷ []) (λ e. e ≡ EditError.OutOfMemory) }
+    ensures err { OnErr result (outbox.new ≡ outbox.old) }
+{
+    match outbox.push(op) {
+        Ok(()) => Ok(()),
+        Err(_) => Err(EditError::OutOfMemory),
     }
 }
 

@@ -12,6 +12,7 @@ mod statuses;
 mod top;
 
 pub use outcome::{Outcome, Report, RunFault};
+pub use session_ops::{Call, Entry, Op, Refusal, Reply};
 pub use top::program;
 
 #[cfg(test)]

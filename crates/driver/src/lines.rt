@@ -1,7 +1,7 @@
 //! The printed lines of a script.
 ghost use Rattle.std.specs.Prelude.{◌≡◌, ◌≢◌, ◌++◌, ◌∷◌, [], OnOk, string_bytes, codes};
 ghost use Rattle.transcript.specs.Texts.{as_text};
-ghost use Rattle.driver.specs.Lines.{joined_words, not_joined_words, no_client_words, edit_words, sent_words, sync_words, error_words};
+ghost use Rattle.driver.specs.Lines.{joined_words, not_joined_words, no_client_words, edit_words, posted_words, sent_words, sync_words, error_words};
 
 use client_sync::EditError;
 use session_ops::{Refusal, Reply};
@@ -99,6 +99,14 @@ fn push_edit_error(out: &mut String, why: EditError) -> Result<(), AllocError>
         EditError::SplitsPair { at } => push_refusal(out, &Refusal::SplitsPair { at }),
         EditError::OutOfMemory => Err(AllocError),
     }
+}
+
+/// `NAME post: ok`.
+pub(crate) fn push_posted(out: &mut String, name: &str) -> Result<(), AllocError>
+    ensures { OnOk result (string_bytes out.new ≡ string_bytes out.old ++ as_text (posted_words name.now ∷ [])) }
+{
+    push_plain(out, name)?;
+    push_plain(out, " post: ok\n")
 }
 
 /// `NAME sent: R`.

@@ -1,15 +1,18 @@
 //! Playing a script over a notebook, with what is printed written to a sink.
-ghost use Rattle.std.specs.Prelude.{◌≡◌, ℕ, ◌≤◌, ◌∷◌, [], ◌++◌, List, Bool, OnOk, IfOk, OnErr, IsErrOf, None, codes, length, string_bytes};
+ghost use Rattle.std.specs.Prelude.{◌≡◌, ℕ, ◌≤◌, [], List, Bool, OnOk, IfOk, OnErr, IsErrOf, string_bytes};
 ghost use Rattle.book_outside.specs.Outside.{Rose, AppendsAll};
 ghost use Rattle.notebook.specs.declared.parts.Parts.{Parts};
 ghost use Rattle.script.specs.Play.{IsPlayable};
-ghost use Rattle.transcript.specs.Texts.{as_text, book_lines, rev_in};
+ghost use Rattle.notebook.specs.Flow.{IsUnbranched};
+ghost use Rattle.session_ops.specs.State.{state};
+ghost use Rattle.transcript.specs.Texts.{as_text};
 ghost use Rattle.driver.specs.Player.{Game, Stage};
-ghost use Rattle.driver.specs.Transcript.{status_lines};
+ghost use Rattle.driver.specs.Transcript.{end_lines};
+ghost use Rattle.driver.specs.Session.{IsSession};
 ghost use Rattle.driver.specs.Headline.{IsHistory, IsPlayed};
 ghost use Rattle.driver.specs.Standing.{Stands, Waits, HasPlayed, after_line};
 ghost use Rattle.driver.specs.Playing.{IsReady, MayFollow, IsOnTheWay};
-ghost use Rattle.driver.specs.Ends.{IsPlayedSo, IsFresh, EndsWritten};
+ghost use Rattle.driver.specs.Ends.{IsPlayedSo, IsFresh, EndsWritten, HasEnded};
 
 use crate::outcome::Report;
 use crate::player::Player;
@@ -18,6 +21,7 @@ use book_outside::{Sink, SinkError};
 use notebook::Notebook;
 use script::{Content, ScriptLine};
 use std::alloc::{AllocError, Global};
+use std::sync::Wait;
 use transcript::{push_book, push_plain};
 use utf16_text::Text;
 
@@ -39,20 +43,22 @@ pub(crate) enum Played {
 }
 
 /// Plays a script over a notebook.
-pub(crate) fn play<K: Sink>(
+pub(crate) fn play<R: Wait, K: Sink>(
+    rt: &R,
     alloc: Global,
     book: Notebook,
     content: &Content,
     sink: &mut K,
 ) -> Played
-    requires { IsPlayable content.now }
+    requires unbranched { IsUnbranched book }
+    requires playable { IsPlayable content.now }
     ensures played { IsPlayedSo book content.now (K.faults sink.old) (K.faults sink.new) (K.written sink.old) (K.written sink.new) result }
 {
     let mut player = match Player::new(alloc, book) {
         Ok(player) => player,
         Err(_) => return Played::OutOfMemory,
     };
-    match play_all(alloc, &mut player, content, sink) {
+    match play_all(rt, alloc, &mut player, content, sink) {
         Ok(()) => Played::Done(report_of(player)),
         Err(PlayFault::SinkFailed) => Played::SinkFailed(report_of(player)),
         Err(PlayFault::OutOfMemory) => Played::OutOfMemory,
@@ -75,7 +81,8 @@ fn report_of(player: Player) -> Report
 }
 
 /// Plays all lines and the end.
-fn play_all<K: Sink>(
+fn play_all<R: Wait, K: Sink>(
+    rt: &R,
     alloc: Global,
     player: &mut Player,
     content: &Content,
@@ -89,27 +96,33 @@ fn play_all<K: Sink>(
 {
     let names = content.names.as_slice();
     let lines = content.lines.as_slice();
-    match play_lines(alloc, player, names, lines, sink) {
-        Ok(()) => play_end(alloc, player, sink),
+    match play_lines(rt, alloc, player, names, lines, sink) {
+        Ok(()) => play_end(rt, alloc, player, sink),
         Err(fault) => Err(fault),
     }
 }
 
-/// Plays the end: it leaves a mark.
-fn play_end<K: Sink>(alloc: Global, player: &mut Player, sink: &mut K) -> Result<(), PlayFault>
-    ensures played { OnOk result (EndsWritten player.old player.new (K.written sink.old) (K.written sink.new)) }
-    ensures failed { IsErrOf result PlayFault.SinkFailed → player.new ≡ record player.old { marks = player.old.marks ++ length player.old.session.history ∷ [] } }
+/// Plays the end: it settles and leaves a mark.
+fn play_end<R: Wait, K: Sink>(
+    rt: &R,
+    alloc: Global,
+    player: &mut Player,
+    sink: &mut K,
+) -> Result<(), PlayFault>
+    ensures played { (n0 : Parts) → IsSession n0 player.old.session → OnOk result (EndsWritten n0 player.old player.new (K.written sink.old) (K.written sink.new)) }
+    ensures failed { (n0 : Parts) → IsSession n0 player.old.session → IsErrOf result PlayFault.SinkFailed → HasEnded n0 player.old player.new }
     ensures counts { K.faults sink.old ≤ K.faults sink.new }
     ensures rose { IsErrOf result PlayFault.SinkFailed → Rose (K.faults sink.old) (K.faults sink.new) }
 {
-    match end_text(alloc, player) {
+    match end_text(rt, alloc, player) {
         Ok(text) => write_piece(sink, text.as_str()),
         Err(_) => Err(PlayFault::OutOfMemory),
     }
 }
 
 /// Plays lines one after the other; what each prints is one write.
-fn play_lines<K: Sink>(
+fn play_lines<R: Wait, K: Sink>(
+    rt: &R,
     alloc: Global,
     player: &mut Player,
     names: &[Text],
@@ -122,7 +135,7 @@ fn play_lines<K: Sink>(
     ensures rose { IsErrOf result PlayFault.SinkFailed → Rose (K.faults sink.old) (K.faults sink.new) }
 {
     for line in lines {
-        let piece = line_text(alloc, player, names, line)?;
+        let piece = line_text(rt, alloc, player, names, line)?;
         match write_piece(sink, piece.as_str()) {
             Ok(()) => {}
             Err(fault) => return Err(fault),
@@ -132,7 +145,8 @@ fn play_lines<K: Sink>(
 }
 
 /// What a line prints.
-fn line_text(
+fn line_text<R: Wait>(
+    rt: &R,
     alloc: Global,
     player: &mut Player,
     names: &[Text],
@@ -141,24 +155,24 @@ fn line_text(
     ensures played { (n0 : Parts) → (s : Stage) → (edited : Bool) → Stands (record { opening = n0; names = names.now }) player.old s → IsReady edited player.old.client line.now → Waits edited player.old.client → IfOk result (λ piece. HasPlayed (record { opening = n0; names = names.now }) line.now player.old player.new s [] (string_bytes piece) × Waits (after_line line.now edited) player.new.client) }
     ensures memory { OnErr result (IsErrOf result PlayFault.OutOfMemory) }
 {
-    match player.line(alloc, names, line) {
+    match player.line(rt, alloc, names, line) {
         Ok(piece) => Ok(piece),
         Err(_) => Err(PlayFault::OutOfMemory),
     }
 }
 
-/// What the end prints: it leaves a mark.
-fn end_text(alloc: Global, player: &mut Player) -> Result<String, AllocError>
-    ensures text { IfOk result (λ t. string_bytes t ≡ as_text (codes "end" ∷ (book_lines (rev_in player.old.session.revs) player.old.session.book ++ status_lines player.old.session.book))) }
-    ensures mark { OnOk result (player.new ≡ record player.old { marks = player.old.marks ++ length player.old.session.history ∷ [] }) }
+/// What the end prints, after it settled and left a mark.
+fn end_text<R: Wait>(rt: &R, alloc: Global, player: &mut Player) -> Result<String, AllocError>
+    ensures { (n0 : Parts) → IsSession n0 player.old.session → IfOk result (λ t. HasEnded n0 player.old player.new × (string_bytes t ≡ as_text (end_lines (state n0 player.new.session.history)))) }
 {
+    player.session.settle(rt, 1)?;
     player.look()?;
     let text = end_of(alloc, player)?;
     Ok(text)
 }
 
 fn end_of(alloc: Global, player: &Player) -> Result<String, AllocError>
-    ensures { IfOk result (λ t. string_bytes t ≡ as_text (codes "end" ∷ (book_lines (rev_in player.now.session.revs) player.now.session.book ++ status_lines player.now.session.book))) }
+    ensures { (n0 : Parts) → IsSession n0 player.now.session → IfOk result (λ t. string_bytes t ≡ as_text (end_lines (state n0 player.now.session.history))) }
 {
     let mut out = String::new(alloc);
     push_plain(&mut out, "end\n")?;
@@ -167,7 +181,12 @@ fn end_of(alloc: Global, player: &Player) -> Result<String, AllocError>
         &player.session.book,
         player.session.revs.as_slice(),
     )?;
-    push_statuses(&mut out, player.session.book.parts())?;
+    push_statuses(
+        &mut out,
+        alloc,
+        player.session.book.parts(),
+        &player.session.lane,
+    )?;
     Ok(out)
 }
 

@@ -3,27 +3,33 @@ ghost use Rattle.std.specs.Prelude.{◌≡◌, ℕ, ◌∷◌, [], ◌++◌, OnO
 ghost use Rattle.notebook.specs.declared.parts.Parts.{Parts};
 ghost use Rattle.session_ops.specs.declared.entry.Entry.{Entry};
 ghost use Rattle.client_sync.specs.Client.{Client as Holder};
-ghost use Rattle.script.specs.declared.line.ScriptLine.TheVariants.{Join, Edit, Sync, Show};
+ghost use Rattle.notebook.specs.Flow.{IsUnbranched};
+ghost use Rattle.session_ops.specs.State.{state};
+ghost use Rattle.script.specs.declared.line.ScriptLine.TheVariants.{Join, Edit, Post, Sync, Show, Settle, Cells};
+ghost use Rattle.transcript.specs.Texts.{as_text};
+ghost use Rattle.driver.specs.Lines.{posted_words};
 ghost use Rattle.std.specs.Str.{encode_utf8_all};
-ghost use Rattle.driver.specs.Player.{Game, Stage, name_of, or_no_name};
-ghost use Rattle.driver.specs.Session.{IsSession};
-ghost use Rattle.driver.specs.Holder.{Mirrors};
+ghost use Rattle.driver.specs.Player.{Game, Stage, name_of, or_no_name, op_of};
+ghost use Rattle.driver.specs.Session.{IsSession, IsCurrent};
+ghost use Rattle.driver.specs.Holder.{Mirrors, flights};
 ghost use Rattle.driver.specs.Playing.{IsReady};
-ghost use Rattle.driver.specs.Standing.{Stands, Waits, after_line, HasPlayed, HasEdited, HasSent, HasExchanged, HasExchangedAny, with_posted};
+ghost use Rattle.driver.specs.Standing.{Stands, Waits, after_line, HasPlayed, HasEdited, MaySend, HasAnsweredOne, HasSent, HasExchanged, HasExchangedAny, with_outbox};
 
-use crate::client::{Client, Posted};
+use crate::client::Client;
 use crate::lines::{
-    push_edit_refused, push_edited, push_joined, push_no_client, push_not_joined, push_sent,
-    push_sync,
+    push_edit_refused, push_edited, push_joined, push_no_client, push_not_joined, push_posted,
+    push_sent, push_sync,
 };
 use crate::session::Session;
+use crate::statuses::push_statuses;
 use delta::Delta;
 use notebook::{CellId, Notebook};
 use plain_list::Items;
-use script::ScriptLine;
-use session_ops::Reply;
+use script::{PostedOp, ScriptLine};
+use session_ops::{Op, Reply};
 use std::alloc::{AllocError, Global};
-use transcript::push_book;
+use std::sync::Wait;
+use transcript::{push_book, push_plain};
 use utf16_text::Text;
 
 /// The session, its one client once it has joined, and the marks: for each turn that made no entry,
@@ -38,6 +44,7 @@ pub(crate) struct Player {
 impl Player {
     /// A player before the first line.
     pub(crate) fn new(alloc: Global, book: Notebook) -> Result<Player, AllocError>
+        requires { IsUnbranched book }
         ensures { IfOk result (λ p. IsSession book p.session × ((p.session.history ≡ []) × ((p.client ≡ None) × (p.marks ≡ [])))) }
     {
         Ok(Player {
@@ -48,8 +55,9 @@ impl Player {
     }
 
     /// Plays a line and gives what it prints. After want of memory the player is of no more use.
-    pub(crate) fn line(
+    pub(crate) fn line<R: Wait>(
         &mut self,
+        rt: &R,
         alloc: Global,
         names: &[Text],
         line: &ScriptLine,
@@ -68,11 +76,20 @@ impl Player {
             } => {
                 self.edit(name_in(names, *client), *client, *cell, delta, &mut out)?;
             }
+            ScriptLine::Post { client, op } => {
+                self.post(name_in(names, *client), *client, *op, &mut out)?;
+            }
             ScriptLine::Sync => {
                 self.sync(name_in(names, 0), &mut out)?;
             }
             ScriptLine::Show { client } => {
                 self.show(name_in(names, *client), *client, &mut out)?;
+            }
+            ScriptLine::Settle => {
+                self.settle(rt, &mut out)?;
+            }
+            ScriptLine::Cells => {
+                self.cells(alloc, &mut out)?;
             }
         }
         Ok(out)
@@ -115,6 +132,45 @@ impl Player {
             None => push_no_client(out, name, "edit")?,
             Some(own) => edit_own(own, name, cell, delta, out)?,
         }
+        Ok(())
+    }
+
+    /// `post NAME OP`.
+    pub(crate) fn post(
+        &mut self,
+        name: &str,
+        client: u32,
+        op: PostedOp,
+        out: &mut String,
+    ) -> Result<(), AllocError>
+        ensures played { (g : Game) → (s : Stage) → name.now ≡ name_of g client → Stands g self.old s → client ≡ 0 → OnOk result (HasPlayed g (Post client op) self.old self.new s (string_bytes out.old) (string_bytes out.new)) }
+        ensures waits { (edited : Bool) → Waits edited self.old.client → OnOk result (Waits edited self.new.client) }
+    {
+        match &mut self.client {
+            None => push_no_client(out, name, "post")?,
+            Some(own) => post_own(own, name, op, out)?,
+        }
+        Ok(())
+    }
+
+    /// `settle`.
+    pub(crate) fn settle<R: Wait>(&mut self, rt: &R, out: &mut String) -> Result<(), AllocError>
+        ensures played { (g : Game) → (s : Stage) → Stands g self.old s → OnOk result (HasPlayed g Settle self.old self.new s (string_bytes out.old) (string_bytes out.new)) }
+        ensures client { OnOk result (self.new.client ≡ self.old.client) }
+    {
+        self.session.settle(rt, 1)?;
+        self.look()?;
+        push_plain(out, "settled\n")?;
+        Ok(())
+    }
+
+    /// `cells`.
+    pub(crate) fn cells(&mut self, alloc: Global, out: &mut String) -> Result<(), AllocError>
+        ensures played { (g : Game) → (s : Stage) → Stands g self.old s → OnOk result (HasPlayed g Cells self.old self.new s (string_bytes out.old) (string_bytes out.new)) }
+        ensures client { OnOk result (self.new.client ≡ self.old.client) }
+    {
+        self.look()?;
+        push_statuses(out, alloc, self.session.book.parts(), &self.session.lane)?;
         Ok(())
     }
 
@@ -164,7 +220,7 @@ fn edit_own(
     delta: &Delta,
     out: &mut String,
 ) -> Result<(), AllocError>
-    ensures { (n0 : Parts) → (h : List Entry) → (m : Holder) → Mirrors n0 h own.old m → own.old.posted ≡ None → OnOk result (HasEdited n0 h name.now cell delta.now own.old own.new m (string_bytes out.old) (string_bytes out.new)) }
+    ensures { (n0 : Parts) → (h : List Entry) → (m : Holder) → Mirrors n0 h own.old m → flights own.old.outbox ≡ [] → OnOk result (HasEdited n0 h name.now cell delta.now own.old own.new m (string_bytes out.old) (string_bytes out.new)) }
 {
     match own.edit(cell, delta) {
         Ok(()) => push_edited(out, name, cell)?,
@@ -173,14 +229,38 @@ fn edit_own(
     Ok(())
 }
 
-/// What the client has posted, if there is a client, goes to the server and comes back.
+/// An operation of the client's own, and what is printed of it.
+fn post_own(
+    own: &mut Client,
+    name: &str,
+    op: PostedOp,
+    out: &mut String,
+) -> Result<(), AllocError>
+    ensures posted { OnOk result (own.new ≡ with_outbox own.old (own.old.outbox ++ op_of op ∷ [])) }
+        ensures printed { OnOk result (string_bytes out.new ≡ string_bytes out.old ++ as_text (posted_words name.now ∷ [])) }
+{
+    own.post(op_of(op))?;
+    push_posted(out, name)?;
+    Ok(())
+}
+
+/// The call that a posted operation makes.
+fn op_of(op: PostedOp) -> Op
+    ensures { result ≡ op_of op }
+{
+    match op {
+        PostedOp::Queue { cell } => Op::Queue { cell },
+    }
+}
+
+/// What waits in the client's outbox, if there is a client, goes to the server and comes back.
 fn exchange_any(
     session: &mut Session,
     client: &mut Option<Client>,
     name: &str,
     out: &mut String,
 ) -> Result<(), AllocError>
-    ensures exchanged { (n0 : Parts) → IsSession n0 session.old → OnOk result (HasExchangedAny client.old client.new n0 name.now session.old session.new (string_bytes out.old) (string_bytes out.new)) }
+    ensures exchanged { (g : Game) (marks : List ℕ) → name.now ≡ name_of g 0 → OnOk result (HasExchangedAny client.old client.new g marks session.old session.new (string_bytes out.old) (string_bytes out.new)) }
     ensures nothing { OnOk result (Waits false client.new) }
 {
     match client {
@@ -190,44 +270,52 @@ fn exchange_any(
     Ok(())
 }
 
-/// What the client has posted goes to the server and comes back.
+/// What waits in the client's outbox goes to the server and comes back.
 fn exchange(
     session: &mut Session,
     own: &mut Client,
     name: &str,
     out: &mut String,
 ) -> Result<(), AllocError>
-    ensures exchanged { (n0 : Parts) → (m : Holder) → IsSession n0 session.old → Mirrors n0 session.old.history own.old m → OnOk result (HasExchanged own.old.posted n0 name.now session.old session.new own.old own.new m (string_bytes out.old) (string_bytes out.new)) }
-    ensures nothing { OnOk result (own.new.posted ≡ None) }
+    ensures exchanged { (g : Game) (marks : List ℕ) (m : Holder) (s : Stage) → name.now ≡ name_of g 0 → MaySend g marks m s session.old own.old → OnOk result (HasExchanged g marks m s session.old session.new own.old own.new (string_bytes out.old) (string_bytes out.new)) }
+    ensures nothing { OnOk result (own.new.outbox ≡ []) }
 {
-    match own.take_posted() {
-        None => Ok(()),
-        Some(posted) => {
-            send(session, own, name, posted, out)?;
-            Ok(())
-        }
-    }
+    let outbox = own.take_outbox();
+    send_all(session, own, name, outbox.as_slice(), out)?;
+    Ok(())
 }
 
-/// Sends what the client had posted.
+/// Sends messages, one after the other.
+fn send_all(
+    session: &mut Session,
+    own: &mut Client,
+    name: &str,
+    ops: &[Op],
+    out: &mut String,
+) -> Result<(), AllocError>
+    ensures sent { (g : Game) (marks : List ℕ) (m : Holder) (s : Stage) → name.now ≡ name_of g 0 → own.old.outbox ≡ [] → MaySend g marks m s session.old (with_outbox own.old ops.now) → OnOk result (HasSent g marks ops.now [] m s session.old session.new own.new (string_bytes out.old) (string_bytes out.new)) }
+    ensures nothing { OnOk result (own.new.outbox ≡ own.old.outbox) }
+{
+    for op in ops {
+        send(session, own, name, op, out)?;
+    }
+    Ok(())
+}
+
+/// Sends a message.
 fn send(
     session: &mut Session,
     own: &mut Client,
     name: &str,
-    posted: Posted,
+    op: &Op,
     out: &mut String,
 ) -> Result<(), AllocError>
-    ensures sent { (n0 : Parts) → (m : Holder) → own.old.posted ≡ None → IsSession n0 session.old → Mirrors n0 session.old.history (with_posted own.old posted) m → OnOk result (HasSent n0 name.now posted session.old session.new (with_posted own.old posted) own.new m (string_bytes out.old) (string_bytes out.new)) }
-    ensures nothing { own.new.posted ≡ own.old.posted }
+    ensures sent { (n0 : Parts) → IsSession n0 session.old → IsCurrent (state n0 session.old.history) op.now → OnOk result (HasAnsweredOne n0 op.now session.old session.new own.old own.new name.now (string_bytes out.old) (string_bytes out.new)) }
+    ensures nothing { own.new.outbox ≡ own.old.outbox }
 {
-    let cell = posted.cell;
-    let Posted {
-        cell: _,
-        base,
-        delta,
-    } = posted;
-    let reply = session.change(0, own.number, cell, base, delta)?;
-    own.confirm(cell, &reply);
+    let call = op.copy(session.alloc)?;
+    let reply = session.call(0, own.number, call)?;
+    own.confirm(op, &reply);
     push_sent(out, name, &reply)?;
     Ok(())
 }

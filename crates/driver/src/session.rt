@@ -1,31 +1,37 @@
 //! The session: what the server holds, and the history of all that was asked of it.
-ghost use Rattle.std.specs.Prelude.{◌≡◌, ◌+◌, ℕ, ◌∷◌, [], ◌++◌, OnErr, IfOk, false};
+ghost use Rattle.std.specs.Prelude.{◌≡◌, ◌+◌, ℕ, ◌∷◌, [], ◌++◌, OnOk, OnErr, IfOk, None, false};
 ghost use Rattle.notebook.specs.declared.parts.Parts.{Parts};
 ghost use Rattle.notebook.specs.declared.parts.Cell.{Cell};
 ghost use Rattle.notebook.specs.Book.{cells, found};
-ghost use Rattle.session_ops.specs.State.{state, revision, reply, is_in};
+ghost use Rattle.notebook.specs.Flow.{IsUnbranched};
+ghost use Rattle.session_ops.specs.Work.{is_in};
+ghost use Rattle.session_ops.specs.State.{state, revision, reply, kind_reply};
 ghost use Rattle.session_ops.specs.declared.entry.Call.TheVariants.{Client};
-ghost use Rattle.session_ops.specs.declared.entry.Op.TheVariants.{Join, Delta as DeltaOp};
+ghost use Rattle.session_ops.specs.declared.entry.Op.TheVariants.{Join, Delta as DeltaOp, Queue as QueueOp};
 ghost use Rattle.session_ops.specs.declared.entry.Reply.TheVariants.{Refused as RefusedFor};
-ghost use Rattle.driver.specs.Session.{IsSession, HasAnswered, IsJudged, IsAppliedOrNot};
+ghost use Rattle.driver.specs.Session.{IsSession, HasAnswered, IsJudged, IsAppliedOrNot, IsCurrent, refused_by, HasSettled, HasGoneOn, start_of, answer_of};
 ghost use Rattle.driver.specs.declared.session.Judged.TheVariants.{Fits};
 
 use crate::revisions::{first_revisions, raise};
 use delta::{ApplyError, Delta};
-use notebook::{CellId, Notebook};
+use main_lane::{Evaluated, MainLane};
+use notebook::{CellId, Kind, Lane, Notebook};
 use plain_list::Items;
 use session_ops::{Call, Entry, Op, Refusal, Reply};
 use std::alloc::{AllocError, Global};
+use std::sync::Wait;
 use transcript::rev_in;
 use utf16_text::Text;
 
-/// The server's notebook, the revision of each live cell, who has joined, and the history.
+/// The server's notebook, the revision of each live cell, who has joined, what is evaluated, and the
+/// history.
 #[derive(Drop)]
 pub(crate) struct Session {
     pub(crate) alloc: Global,
     pub(crate) book: Notebook,
     pub(crate) revs: Items<(CellId, u64)>,
     pub(crate) joined: Items<u32>,
+    pub(crate) lane: MainLane,
     pub(crate) history: Items<Entry>,
 }
 
@@ -37,19 +43,36 @@ pub(crate) enum Judged {
 }
 
 impl Session {
-    /// A session that opens with a notebook: nobody has joined, and the history is empty.
+    /// A session that opens with a notebook without branches: nobody has joined, nothing is queued, and
+    /// the history is empty.
     pub(crate) fn new(alloc: Global, book: Notebook) -> Result<Session, AllocError>
+        requires { IsUnbranched book }
         ensures { IfOk result (λ s. IsSession book s × (s.history ≡ [])) }
     {
         let parts = book.parts();
         let revs = first_revisions(alloc, parts)?;
+        let lane = MainLane::new(alloc, &book)?;
         Ok(Session {
             alloc,
             book,
             revs,
             joined: Items::new(alloc),
+            lane,
             history: Items::new(alloc),
         })
+    }
+
+    /// Does what a client asks. A delta is one that was made at its cell's present revision. After want
+    /// of memory nothing is changed.
+    pub(crate) fn call(&mut self, by: u32, client: u32, op: Op) -> Result<Reply, AllocError>
+        ensures ok { (n0 : Parts) → IsSession n0 self.old → IsCurrent (state n0 self.old.history) op → IfOk result (HasAnswered n0 by (Client client op) self.old self.new) }
+        ensures err { OnErr result (self.new ≡ self.old) }
+    {
+        match op {
+            Op::Join => self.join(by, client),
+            Op::Delta { cell, base, delta } => self.change(by, client, cell, base, delta),
+            Op::Queue { cell } => self.queue(by, client, cell),
+        }
     }
 
     /// Lets a client take part. After want of memory nothing is changed.
@@ -132,7 +155,105 @@ impl Session {
         let _entries = self.history.len();
         self.book.set_source(cell, source);
         raise(&mut self.revs, cell, rev);
+        self.lane.edited(&self.book, cell);
         Ok(Reply::Applied { rev, delta: told })
+    }
+
+    /// Queues a cell. After want of memory nothing is changed.
+    pub(crate) fn queue(&mut self, by: u32, client: u32, cell: CellId) -> Result<Reply, AllocError>
+        ensures ok { (n0 : Parts) → IsSession n0 self.old → IfOk result (HasAnswered n0 by (Client client (QueueOp cell)) self.old self.new) }
+        ensures err { OnErr result (self.new ≡ self.old) }
+    {
+        match self.queue_refusal(client, cell) {
+            Some(why) => self.refuse(by, client, Op::Queue { cell }, why),
+            None => self.take_queued(by, client, cell),
+        }
+    }
+
+    /// Why a client may not queue a cell.
+    fn queue_refusal(&self, client: u32, cell: CellId) -> Option<Refusal>
+        ensures { (n0 : Parts) → IsSession n0 self.now → result ≡ refused_by (reply (state n0 self.now.history) (Client client (QueueOp cell))) }
+    {
+        if !is_in(client, self.joined.as_slice()) {
+            return Some(Refusal::NotJoined);
+        }
+        match self.book.find(cell) {
+            None => Some(Refusal::NoCell),
+            Some(found) => self.code_refusal(cell, found.kind),
+        }
+    }
+
+    /// Why a cell of this kind may not be queued.
+    fn code_refusal(&self, cell: CellId, kind: Kind) -> Option<Refusal>
+        ensures { (n0 : Parts) → IsSession n0 self.now → result ≡ refused_by (kind_reply (state n0 self.now.history) cell kind) }
+    {
+        if kind == Kind::Markdown {
+            return Some(Refusal::NotCode);
+        }
+        match self.lane.failed_ancestor(cell) {
+            None => None,
+            Some(cell) => Some(Refusal::AncestorFailed { cell }),
+        }
+    }
+
+    /// Queues a cell that may be queued.
+    fn take_queued(&mut self, by: u32, client: u32, cell: CellId) -> Result<Reply, AllocError>
+        ensures ok { (n0 : Parts) → IsSession n0 self.old → refused_by (reply (state n0 self.old.history) (Client client (QueueOp cell))) ≡ None → IfOk result (HasAnswered n0 by (Client client (QueueOp cell)) self.old self.new) }
+        ensures err { OnErr result (self.new ≡ self.old) }
+    {
+        let _kinds = self.book.parts();
+        self.history.push(Entry {
+            by,
+            call: Call::Client {
+                client,
+                op: Op::Queue { cell },
+            },
+            reply: Reply::Accepted,
+        })?;
+        self.lane.queue(cell);
+        Ok(Reply::Accepted)
+    }
+
+    /// Evaluates what is queued, and before it what that stands on, until nothing is queued.
+    pub(crate) fn settle<R: Wait>(&mut self, rt: &R, by: u32) -> Result<(), AllocError>
+        ensures { (n0 : Parts) → IsSession n0 self.old → OnOk result (HasSettled n0 by self.old self.new) }
+    {
+        for _ in rt.forever() {
+            if self.lane.is_idle() {
+                return Ok(());
+            }
+            self.evaluate(by)?;
+        }
+        unreachable!()
+    }
+
+    /// Evaluates the cell that may be evaluated next, if there is one.
+    fn evaluate(&mut self, by: u32) -> Result<(), AllocError>
+        ensures { (n0 : Parts) → IsSession n0 self.old → OnOk result (HasGoneOn n0 by self.old self.new) }
+    {
+        match self.lane.evaluate(self.alloc, &self.book)? {
+            None => Ok(()),
+            Some(done) => self.enter(by, done),
+        }
+    }
+
+    /// Puts the start and the answer of an evaluation into the history.
+    fn enter(&mut self, by: u32, done: Evaluated) -> Result<(), AllocError>
+        ensures history { OnOk result (self.new.history ≡ self.old.history ++ start_of by done ∷ answer_of by done ∷ []) }
+        ensures others { OnOk result (self.new ≡ record self.old { history = self.new.history }) }
+    {
+        let Evaluated { eval, cell, shown } = done;
+        self.history.push(Entry {
+            by,
+            call: Call::Start { lane: Lane::Main },
+            reply: Reply::Started { eval, cell },
+        })?;
+        self.history.push(Entry {
+            by,
+            call: Call::Respond { eval, shown },
+            reply: Reply::Stored { eval },
+        })?;
+        Ok(())
     }
 
     /// The history, when the session is done. Takes no memory.
@@ -144,6 +265,7 @@ impl Session {
             book: _,
             revs: _,
             joined: _,
+            lane: _,
             history,
         } = self;
         history

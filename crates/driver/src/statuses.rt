@@ -1,103 +1,136 @@
-//! The printed states of the cells at the end.
-ghost use Rattle.std.specs.Prelude.{◌≡◌, ◌++◌, OnOk, codes, decimal, string_bytes};
+//! The printed states of the cells.
+ghost use Rattle.std.specs.Prelude.{◌≡◌, ◌++◌, OnOk, string_bytes};
+ghost use Rattle.notebook.specs.declared.parts.Parts.{Parts as PartsValue};
+ghost use Rattle.notebook.specs.Flow.{section_lane};
+ghost use Rattle.session_ops.specs.Work.{Work};
+ghost use Rattle.main_lane.specs.Tracks.{Tracks};
 ghost use Rattle.transcript.specs.Texts.{as_text, ended_line};
-ghost use Rattle.driver.specs.Transcript.{lane_text, status_line, status_of_kind, cell_statuses, section_statuses, setup_status, status_lines};
+ghost use Rattle.driver.specs.Statuses.{HasPath, HasPathIfCode, AllHavePaths, AllSectionsHavePaths, cell_line, line_of_kind, code_lines, section_code_lines, setup_line, status_lines};
 
-use notebook::{Cell, Kind, Parts, Section};
-use std::alloc::AllocError;
-use transcript::{push_named, push_plain};
+use main_lane::{MainLane, Row};
+use notebook::{Cell, CellId, Kind, Lane, Parts, Section};
+use std::alloc::{AllocError, Global};
+use transcript::push_state;
 
-/// The states of the setup and code cells in notebook order. Nothing is evaluated yet, so each is
-/// `ready fresh`.
-pub(crate) fn push_statuses(out: &mut String, book: &Parts) -> Result<(), AllocError>
-    ensures { OnOk result (string_bytes out.new ≡ string_bytes out.old ++ as_text (status_lines book.now)) }
+/// Puts the states of the setup and code cells of a notebook in its order, a line each.
+pub(crate) fn push_statuses(
+    out: &mut String,
+    alloc: Global,
+    book: &Parts,
+    lane: &MainLane,
+) -> Result<(), AllocError>
+    ensures { (w : Work) → Tracks book.now w lane.now → OnOk result (string_bytes out.new ≡ string_bytes out.old ++ as_text (status_lines book.now w)) }
 {
-    push_setup(out, &book.setup)?;
-    push_sections(out, book.sections.as_slice())?;
-    Ok(())
-}
-
-fn push_sections(out: &mut String, sections: &[Section]) -> Result<(), AllocError>
-    ensures { OnOk result (string_bytes out.new ≡ string_bytes out.old ++ as_text (section_statuses sections.now)) }
-{
-    for section in sections {
-        push_section(out, section)?;
-    }
+    push_setup(out, alloc, &book.setup, lane)?;
+    push_sections(out, alloc, book.sections.as_slice(), lane)?;
     Ok(())
 }
 
 /// The setup cell's state, unless its source is empty.
-fn push_setup(out: &mut String, setup: &Cell) -> Result<(), AllocError>
-    ensures { OnOk result (string_bytes out.new ≡ string_bytes out.old ++ as_text (setup_status setup.now)) }
+fn push_setup(
+    out: &mut String,
+    alloc: Global,
+    setup: &Cell,
+    lane: &MainLane,
+) -> Result<(), AllocError>
+    ensures { (n : PartsValue) (w : Work) → Tracks n w lane.now → HasPath n setup.now.id → OnOk result (string_bytes out.new ≡ string_bytes out.old ++ as_text (setup_line n w setup.now)) }
 {
     if setup.source.is_empty() {
         return Ok(());
     }
-    push_main(out, setup)?;
+    push_cell(out, alloc, setup.id, Lane::Main, lane)?;
     Ok(())
 }
 
-/// The state of a cell of the main flow.
-fn push_main(out: &mut String, cell: &Cell) -> Result<(), AllocError>
-    ensures { OnOk result (string_bytes out.new ≡ string_bytes out.old ++ ended_line (status_line (codes "main") cell.now)) }
+fn push_sections(
+    out: &mut String,
+    alloc: Global,
+    sections: &[Section],
+    lane: &MainLane,
+) -> Result<(), AllocError>
+    ensures { (n : PartsValue) (w : Work) → Tracks n w lane.now → AllSectionsHavePaths n sections.now → OnOk result (string_bytes out.new ≡ string_bytes out.old ++ as_text (section_code_lines n w sections.now)) }
 {
-    push_head(out, cell)?;
-    push_plain(out, "main ready fresh\n")?;
-    Ok(())
-}
-
-fn push_section(out: &mut String, section: &Section) -> Result<(), AllocError>
-    ensures { OnOk result (string_bytes out.new ≡ string_bytes out.old ++ as_text (cell_statuses (lane_text section.now section.now.parent) section.now.cells)) }
-{
-    push_cells(out, section, section.cells.as_slice())?;
-    Ok(())
-}
-
-fn push_cells(out: &mut String, section: &Section, cells: &[Cell]) -> Result<(), AllocError>
-    ensures { OnOk result (string_bytes out.new ≡ string_bytes out.old ++ as_text (cell_statuses (lane_text section.now section.now.parent) cells.now)) }
-{
-    for cell in cells {
-        push_cell(out, section, cell)?;
+    for section in sections {
+        push_section(out, alloc, section, lane)?;
     }
     Ok(())
 }
 
-/// The state of a code cell of a section; nothing for any other.
-fn push_cell(out: &mut String, section: &Section, cell: &Cell) -> Result<(), AllocError>
-    ensures { OnOk result (string_bytes out.new ≡ string_bytes out.old ++ as_text (status_of_kind (lane_text section.now section.now.parent) cell.now cell.now.kind)) }
+fn push_section(
+    out: &mut String,
+    alloc: Global,
+    section: &Section,
+    lane: &MainLane,
+) -> Result<(), AllocError>
+    ensures { (n : PartsValue) (w : Work) → Tracks n w lane.now → AllHavePaths n section.now.cells → OnOk result (string_bytes out.new ≡ string_bytes out.old ++ as_text (code_lines n w (section_lane section.now) section.now.cells)) }
+{
+    push_cells(out, alloc, lane_of(section), section.cells.as_slice(), lane)?;
+    Ok(())
+}
+
+/// The lane of a section's cells.
+fn lane_of(section: &Section) -> Lane
+    ensures { result ≡ section_lane section.now }
+{
+    match section.parent {
+        None => Lane::Main,
+        Some(_) => Lane::Branch(section.id),
+    }
+}
+
+fn push_cells(
+    out: &mut String,
+    alloc: Global,
+    home: Lane,
+    cells: &[Cell],
+    lane: &MainLane,
+) -> Result<(), AllocError>
+    ensures { (n : PartsValue) (w : Work) → Tracks n w lane.now → AllHavePaths n cells.now → OnOk result (string_bytes out.new ≡ string_bytes out.old ++ as_text (code_lines n w home cells.now)) }
+{
+    for cell in cells {
+        push_code(out, alloc, home, cell, lane)?;
+    }
+    Ok(())
+}
+
+/// The state of a code cell; nothing for any other.
+fn push_code(
+    out: &mut String,
+    alloc: Global,
+    home: Lane,
+    cell: &Cell,
+    lane: &MainLane,
+) -> Result<(), AllocError>
+    ensures { (n : PartsValue) (w : Work) → Tracks n w lane.now → HasPathIfCode n cell.now cell.now.kind → OnOk result (string_bytes out.new ≡ string_bytes out.old ++ as_text (line_of_kind n w home cell.now cell.now.kind)) }
 {
     match cell.kind {
         Kind::Setup | Kind::Markdown => Ok(()),
         Kind::Code => {
-            push_code(out, section, cell)?;
+            push_cell(out, alloc, cell.id, home, lane)?;
             Ok(())
         }
     }
 }
 
-fn push_code(out: &mut String, section: &Section, cell: &Cell) -> Result<(), AllocError>
-    ensures { OnOk result (string_bytes out.new ≡ string_bytes out.old ++ ended_line (status_line (lane_text section.now section.now.parent) cell.now)) }
+/// The state of a cell that has a path.
+fn push_cell(
+    out: &mut String,
+    alloc: Global,
+    cell: CellId,
+    home: Lane,
+    lane: &MainLane,
+) -> Result<(), AllocError>
+    ensures { (n : PartsValue) (w : Work) → Tracks n w lane.now → HasPath n cell → OnOk result (string_bytes out.new ≡ string_bytes out.old ++ ended_line (cell_line n w home cell)) }
 {
-    push_head(out, cell)?;
-    push_lane(out, section)?;
-    push_plain(out, " ready fresh\n")?;
-    Ok(())
-}
-
-/// `code ID `.
-fn push_head(out: &mut String, cell: &Cell) -> Result<(), AllocError>
-    ensures { OnOk result (string_bytes out.new ≡ string_bytes out.old ++ (codes "code " ++ (decimal cell.now.id ++ codes " "))) }
-{
-    push_named(out, "code ", cell.id)?;
-    push_plain(out, " ")
-}
-
-/// A section's lane: the main flow, or its branch.
-fn push_lane(out: &mut String, section: &Section) -> Result<(), AllocError>
-    ensures { OnOk result (string_bytes out.new ≡ string_bytes out.old ++ lane_text section.now section.now.parent) }
-{
-    match section.parent {
-        None => push_plain(out, "main"),
-        Some(_) => push_named(out, "branch ", section.id),
+    match lane.row(cell) {
+        None => Ok(()),
+        Some(Row {
+            status,
+            validity,
+            shown,
+        }) => {
+            push_state(out, alloc, cell, home, status, validity, shown)?;
+            Ok(())
+        }
     }
 }

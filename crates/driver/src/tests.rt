@@ -16,11 +16,11 @@ const SCRIPT: &str = "join ann\nedit ann 1 [1,\"X\"]\nsync\nshow ann\n";
 const TRANSCRIPT: &str =
     "ann joined at 1\nann edit 1: ok\nann sent: accepted rev 1\nsync at 2\nnotebook \"T\"\nsection 1 \"S\"\ncell 1 markdown rev 1 \"aXb\"\nend\nnotebook \"T\"\nsection 1 \"S\"\ncell 1 markdown rev 1 \"aXb\"\n";
 
-fn words(alloc: Global) -> Result<Vec<String>, Fail> {
+fn words(alloc: Global, spoken: &[&str]) -> Result<Vec<String>, Fail> {
     let mut words = Vec::new(alloc);
-    words.push(String::from_str(alloc, "play")?)?;
-    words.push(String::from_str(alloc, "b")?)?;
-    words.push(String::from_str(alloc, "s")?)?;
+    for word in spoken {
+        words.push(String::from_str(alloc, word)?)?;
+    }
     Ok(words)
 }
 
@@ -33,7 +33,7 @@ fn shelf(alloc: Global, names: &[&str], texts: &[&str]) -> Result<MemoryShelf, F
     Ok(MemoryShelf::new(books, Vec::new(alloc)))
 }
 
-/// The status and what was written.
+/// The status and what was written, where the words are `play b s`.
 fn run<R: Threads + Wait + Sync>(
     rt: &R,
     alloc: Global,
@@ -41,9 +41,21 @@ fn run<R: Threads + Wait + Sync>(
     texts: &[&str],
     failing: &[u64],
 ) -> Result<(Outcome, Vec<u8>), Fail> {
+    run_words(rt, alloc, &["play", "b", "s"], names, texts, failing)
+}
+
+/// The status and what was written.
+fn run_words<R: Threads + Wait + Sync>(
+    rt: &R,
+    alloc: Global,
+    spoken: &[&str],
+    names: &[&str],
+    texts: &[&str],
+    failing: &[u64],
+) -> Result<(Outcome, Vec<u8>), Fail> {
     let mut shelf = shelf(alloc, names, texts)?;
     let mut sink = MemorySink::new(alloc, Vec::from_slice(alloc, failing)?);
-    let words = words(alloc)?;
+    let words = words(alloc, spoken)?;
     let outcome = program(
         rt,
         alloc,
@@ -135,5 +147,56 @@ fn faults_are_told(rt: HostRuntime) -> Result<(), Fail> {
     assert_eq!(rt; written.as_slice(), b"ann joined at 1\n".as_slice());
     let report = outcome.report.ok_or("a report")?;
     assert_eq!(rt; report.history.len(), 1);
+    Ok(())
+}
+
+#[test]
+fn other_words_are_refused(rt: HostRuntime) -> Result<(), Fail> {
+    let alloc = rt.alloc();
+    let (outcome, written) = run_words(
+        &rt,
+        alloc,
+        &["play", "b"],
+        &["b", "s"],
+        &[BOOK, SCRIPT],
+        &[],
+    )?;
+    assert_eq!(rt; outcome.status, 1);
+    assert_eq!(rt; outcome.fault, Some(RunFault::Usage));
+    assert_eq!(rt; written.len(), 0);
+    let (outcome, _) = run_words(
+        &rt,
+        alloc,
+        &["fly", "b", "s"],
+        &["b", "s"],
+        &[BOOK, SCRIPT],
+        &[],
+    )?;
+    assert_eq!(rt; outcome.status, 1);
+    let (outcome, _) = run_words(&rt, alloc, &[], &["b", "s"], &[BOOK, SCRIPT], &[])?;
+    assert_eq!(rt; outcome.status, 1);
+    Ok(())
+}
+
+#[test]
+fn a_sync_stands_between_edits(rt: HostRuntime) -> Result<(), Fail> {
+    let script = "join ann\nedit ann 1 [\"X\"]\nedit ann 1 [\"Y\"]\n";
+    let (outcome, written) = run(&rt, rt.alloc(), &["b", "s"], &[BOOK, script], &[])?;
+    assert_eq!(rt; outcome.status, 5);
+    let why = ScriptError::At {
+        line: 3,
+        kind: LineFault::Unbuilt,
+    };
+    assert_eq!(rt; outcome.fault, Some(RunFault::ScriptRefused(why)));
+    assert_eq!(rt; written.len(), 0);
+    let script = "join ann\nedit ann 1 [\"X\"]\nsync\nedit ann 1 [3,\"Y\"]\nsync\n";
+    let (outcome, written) = run(&rt, rt.alloc(), &["b", "s"], &[BOOK, script], &[])?;
+    assert_eq!(rt; outcome.status, 0);
+    let told =
+        "ann joined at 1\nann edit 1: ok\nann sent: accepted rev 1\nsync at 2\nann edit 1: ok\nann sent: accepted rev 2\nsync at 3\nend\nnotebook \"T\"\nsection 1 \"S\"\ncell 1 markdown rev 2 \"XabY\"\n";
+    assert_eq!(rt; written.as_slice(), told.as_bytes());
+    let report = outcome.report.ok_or("a report")?;
+    assert_eq!(rt; report.marks.as_slice(), [2, 3, 3].as_slice());
+    assert_eq!(rt; report.history.len(), 3);
     Ok(())
 }

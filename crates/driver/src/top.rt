@@ -1,5 +1,6 @@
 //! The top call: words, shelf and sink in, the status out.
 ghost use Rattle.std.specs.Prelude.{◌≡◌, ◌≤◌, List, ℕ, Option, map, IfSome, string_bytes};
+ghost use Rattle.notebook.specs.Flow.{IsUnbranched};
 ghost use Rattle.script.specs.Play.{IsPlayable};
 ghost use Rattle.driver.specs.Program.{IsPlay, IsAnswer, status_of};
 ghost use Rattle.driver.specs.Answers.{BytesAreBook, BytesAreScript, IsBookAnswer, IsScriptAnswer, WordsAnswer, HasReadBook, outcome_of, ended_with};
@@ -20,11 +21,11 @@ const MOST_BYTES: u64 = 8_388_609;
 /// name over the book of that name, and writes the transcript to the sink.
 ///
 /// Both are read from the shelf and may have 8,388,608 bytes. Each script line that prints is one
-/// write, and so is the end. The gate is for evaluations; nothing is evaluated yet.
+/// write, and so is the end. Code cells are evaluated on the caller's thread; the gate isn't used yet.
 ///
 /// At the statuses 1 to 5 nothing is written. At status 6 the report is of the history so far.
 pub fn program<R: Threads + Wait + Sync, S: Shelf, K: Sink + Send, G: Gate>(
-    _rt: &R,
+    rt: &R,
     alloc: Global,
     words: &[String],
     shelf: &mut S,
@@ -36,7 +37,7 @@ pub fn program<R: Threads + Wait + Sync, S: Shelf, K: Sink + Send, G: Gate>(
 {
     match play_words(words) {
         None => ended(RunFault::Usage),
-        Some((book, script)) => run(alloc, book, script, shelf, sink),
+        Some((book, script)) => run(rt, alloc, book, script, shelf, sink),
     }
 }
 
@@ -72,7 +73,8 @@ fn ended(fault: RunFault) -> Outcome
 }
 
 /// Reads book and script and plays.
-fn run<S: Shelf, K: Sink>(
+fn run<R: Wait, S: Shelf, K: Sink>(
+    rt: &R,
     alloc: Global,
     book: &str,
     script: &str,
@@ -83,24 +85,26 @@ fn run<S: Shelf, K: Sink>(
     ensures answer { (words : List (List ℕ)) → IsPlay words book.now script.now → IsAnswer words (S.held shelf.old) (S.faults shelf.old) (S.faults shelf.new) (K.faults sink.old) (K.faults sink.new) (K.written sink.old) (K.written sink.new) result.report result.fault }
 {
     match read_book(alloc, book, shelf) {
-        Ok(book) => run_script(alloc, book, script, shelf, sink),
+        Ok(book) => run_script(rt, alloc, book, script, shelf, sink),
         Err(fault) => ended(fault),
     }
 }
 
 /// Reads the script and plays it over a book.
-fn run_script<S: Shelf, K: Sink>(
+fn run_script<R: Wait, S: Shelf, K: Sink>(
+    rt: &R,
     alloc: Global,
     book: Read,
     script: &str,
     shelf: &mut S,
     sink: &mut K,
 ) -> Outcome
+    requires { IsUnbranched book.notebook }
     ensures status { result.status ≡ status_of result.fault }
     ensures answer { (words : List (List ℕ)) → HasReadBook words (S.held shelf.old) script.now book → IsAnswer words (S.held shelf.old) (S.faults shelf.old) (S.faults shelf.new) (K.faults sink.old) (K.faults sink.new) (K.written sink.old) (K.written sink.new) result.report result.fault }
 {
     match read_lines(alloc, script, shelf) {
-        Ok(script) => finished(play(alloc, book.notebook, script.content(), sink)),
+        Ok(script) => finished(play(rt, alloc, book.notebook, script.content(), sink)),
         Err(fault) => ended(fault),
     }
 }

@@ -1,6 +1,6 @@
 -- A turn of the machine keeps what is given in the end.
-use Rattle.std.proofs.Common.{◌≡◌, ◌+◌, ◌-◌, ◌≤◌, ◌<◌, ℕ, Bool, true, false, List, [], ◌∷◌, ◌++◌, Option, Some, None, Result, Ok, Err, refl, sym, ap, ◌∙◌, subst, arith}
-use Rattle.std.specs.Prelude.{nat_le, if◌then◌else◌, slice_get, pos}
+use Rattle.std.proofs.Common.{◌≡◌, ◌-◌, ℕ, true, false, List, [], ◌∷◌, ◌++◌, Option, Some, None, Result, Err, refl, sym, subst, arith}
+use Rattle.std.specs.Prelude.{nat_le, slice_get, pos}
 use Rattle.std.proofs.lemmas.Bool.Decides.{nat_tests}
 use Rattle.ex_value.specs.declared.Value.{Value}
 use Rattle.ex_model.specs.declared.ast.Operator.{Operator}
@@ -9,15 +9,14 @@ use Rattle.ex_model.specs.declared.ast.Node.TheVariants.{Literal, Lookup, Bind, 
 use Rattle.ex_model.specs.declared.bindings.Binding.{Binding}
 use Rattle.ex_model.specs.declared.fault.Fault.{Fault}
 use Rattle.ex_model.specs.declared.fault.Fault.TheVariants.{TooManySteps}
-use Rattle.ex_model.specs.declared.ran.Outcome.TheVariants as Outcomes
 use Rattle.ex_model.specs.Tree.{Tree, Integer, Variable, Match, Binary, Named}
 use Rattle.ex_model.specs.At.{IsAt}
 use Rattle.ex_model.specs.Meaning.{Evaluated, Gives, Faults, charge, meaning_of, looked_up, seen, matched, operated, applied}
 use Rattle.ex_machine.specs.declared.machine.Frame.{Frame}
 use Rattle.ex_machine.specs.declared.machine.Frame.TheVariants.{First, Second, Bound}
 use Rattle.ex_machine.specs.declared.machine.Spot.{Spot}
-use Rattle.ex_machine.specs.declared.machine.Spot.TheVariants.{Entered, Returned, Over}
-use Rattle.ex_machine.specs.Futures.{Rest, ThenSecond, ThenApply, ThenBind, rest_meaning, resumed, begun, IsFrame, waits_for_second, waits_to_apply, waits_to_bind, AreFrames, Next, Sees, sees_integer, sees_variable, sees_match, sees_binary, IsFuture, failed, spot_of}
+use Rattle.ex_machine.specs.declared.machine.Spot.TheVariants.{Entered, Returned}
+use Rattle.ex_machine.specs.Futures.{Rest, ThenSecond, ThenApply, ThenBind, rest_meaning, resumed, begun, IsFrame, waits_for_second, waits_to_apply, waits_to_bind, AreFrames, Sees, sees_integer, sees_variable, sees_match, sees_binary, IsFuture, spot_of}
 
 -- nothing comes after a fault
 pub resumed-fault : (base : List Binding) (rests : List Rest) (f : Fault) (left : ℕ) → resumed base rests (Faults f left) ≡ Faults f left

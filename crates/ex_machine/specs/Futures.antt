@@ -1,5 +1,5 @@
 -- What the machine gives in the end, from what it stands at.
-use Rattle.std.specs.Prelude.{◌≡◌, ◌+◌, ◌*◌, ◌≤◌, ℕ, pos, Bool, true, false, List, [], ◌∷◌, ◌++◌, Option, Some, None}
+use Rattle.std.specs.Prelude.{◌≡◌, ◌+◌, ◌*◌, ℕ, pos, Bool, true, false, List, [], ◌∷◌, ◌++◌, Option, Some, None}
 use Rattle.ex_value.specs.declared.Value.{Value}
 use Rattle.ex_value.specs.declared.Value.TheVariants.{Int}
 use Rattle.ex_model.specs.declared.ast.Operator.{Operator}

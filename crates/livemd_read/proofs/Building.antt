@@ -1,10 +1,10 @@
 -- The notebook that items give: how it grows, and that it keeps the rules.
-use Rattle.std.proofs.Common.{◌≡◌, ℕ, ◌+◌, ◌-◌, ◌<◌, ◌≤◌, max, zero, suc, Bool, true, false, cond, List, [], ◌∷◌, ◌++◌, Option, None, Some, length, take, get_or, set, map, refl, sym, ap, ◌∙◌, arith, subst, append_assoc, length-append, codes}
-use Rattle.std.specs.Prelude.{slice_get, slice_set, Contains}
-use Rattle.std.specs.List.{fold, flat_map, AllByRecursion}
+use Rattle.std.proofs.Common.{◌≡◌, ℕ, ◌+◌, ◌-◌, ◌<◌, max, suc, Bool, true, false, cond, List, [], ◌∷◌, ◌++◌, Some, length, get_or, set, refl, sym, ap, ◌∙◌, arith, append_assoc, length-append, codes}
+use Rattle.std.specs.Prelude.{slice_get, slice_set}
+use Rattle.std.specs.List.{flat_map}
 use Rattle.std.specs.Str.{chars}
 use Rattle.std.proofs.lemmas.Grind.{flat_map-append}
-use Rattle.std.proofs.lemmas.List.{append-nil, map-append, take_more}
+use Rattle.std.proofs.lemmas.List.{append-nil}
 use Rattle.std.proofs.lemmas.Option.{get_or_from_slice_get}
 use Rattle.notebook.specs.declared.parts.Cell.{Cell}
 use Rattle.notebook.specs.declared.parts.Saved.{Saved}
@@ -12,26 +12,11 @@ use Rattle.notebook.specs.declared.parts.Section.{Section}
 use Rattle.notebook.specs.declared.parts.Parts.{Parts}
 use Rattle.notebook.specs.declared.parts.Kind.{Kind}
 use Rattle.notebook.specs.declared.parts.Kind.TheVariants as cell
-use Rattle.notebook.specs.Book.{cells_of, section_cells, untitled, empty_setup}
-use Rattle.notebook.specs.Rules.{IsNotebook, cell_number, section_number, AreDistinct, IsSectionKind, IsSectionCell, IsBelow, IsParentAmong, ParentsStand, code_count, code_weight, numbered_cells}
-use Rattle.livemd_read.specs.declared.items.Item.{Item}
+use Rattle.notebook.specs.Book.{cells_of, section_cells}
+use Rattle.notebook.specs.Rules.{code_count}
 use Rattle.livemd_read.specs.Lines.{is_empty}
 use Rattle.livemd_read.specs.Items as item
-use Rattle.livemd_read.specs.Book.{with_section, with_some_section, with_last_cell, with_cell, with_item, book_of}
-use Rattle.livemd_read.specs.Reads.{HasFewSections, HasFewCells}
-use Rattle.livemd_read.specs.Resume.{item_of, views}
-
--- one item more
-fold-more : (n : Parts) (is : List item.Item) (i : item.Item) → fold with_item n (is ++ i ∷ []) ≡ with_item (fold with_item n is) i
-fold-more n [] i = refl
-fold-more n (j ∷ is) i = fold-more (with_item n j) is i
-
-pub book_of-more : (is : List item.Item) (i : item.Item) → book_of (is ++ i ∷ []) ≡ with_item (book_of is) i
-book_of-more is i = fold-more untitled is i
-
-pub views-more : (xs : List Item) (i : ℕ) (x : Item) → i < length xs → x ≡ get_or xs i x → views (take (i + 1) xs) ≡ views (take i xs) ++ item_of x ∷ []
-views-more xs i x within at =
-    ap views (take_more xs i x within ∙ ap (λ y. take i xs ++ y ∷ []) (sym at)) ∙ map-append item_of (take i xs) (x ∷ [])
+use Rattle.livemd_read.specs.Book.{with_section, with_some_section, with_last_cell, with_cell, with_item}
 
 -- one cell more in the last section
 pub length-with_last_cell : (c : Cell) (ss : List Section) → length (with_last_cell c ss) ≡ length ss
@@ -87,27 +72,49 @@ sections-section n t = length-append n.sections _
 pub sections-markdown : (n : Parts) (t : List ℕ) → length (with_item n (item.Markdown t)).sections ≡ max (length n.sections) 1
 sections-markdown n t = length-with_last_cell _ (with_some_section n).sections ∙ length-some n
 
+pub sections-code : (n : Parts) (t : List ℕ) → length (with_item n (item.Code t)).sections ≡ max (length n.sections) 1
+sections-code n t = length-with_last_cell _ (with_some_section n).sections ∙ length-some n
+
 cells-section : (n : Parts) (t : List ℕ) → section_cells (with_item n (item.Section t)) ≡ section_cells n
 cells-section n t = flat_map-append cells_of n.sections _ ∙ append-nil (section_cells n)
 
--- the cell that Markdown text adds
-abbrev new_cell : Parts → List ℕ → Cell
-new_cell n t = record { id = n.next_cell; kind = cell.Markdown; source = chars t; before = []; saved = [] }
+-- the cell that an item adds
+abbrev new_cell : Parts → Kind → List ℕ → Cell
+new_cell n k t = record { id = n.next_cell; kind = k; source = chars t; before = []; saved = [] }
 
 next_cell-some : (n : Parts) → (with_some_section n).next_cell ≡ n.next_cell
 next_cell-some n = elim (is_empty n.sections) as (λ b. (cond b (with_section (codes "Section") n) n).next_cell ≡ n.next_cell) [ true ↦ refl | false ↦ refl ]
 
-cells-markdown : (n : Parts) (t : List ℕ) → section_cells (with_item n (item.Markdown t)) ≡ section_cells n ++ new_cell n t ∷ []
-cells-markdown n t =
-    cells-with_last_cell (new_cell (with_some_section n) t) (with_some_section n).sections (some_length n)
-    ∙ (ap (λ cs. cs ++ new_cell (with_some_section n) t ∷ []) (cells-some n)
-    ∙ ap (λ k. section_cells n ++ record { id = k; kind = cell.Markdown; source = chars t; before = []; saved = [] } ∷ []) (next_cell-some n))
+cells-cell : (n : Parts) (k : Kind) (t : List ℕ) → section_cells (with_cell k (chars t) (with_some_section n)) ≡ section_cells n ++ new_cell n k t ∷ []
+cells-cell n k t =
+    cells-with_last_cell (new_cell (with_some_section n) k t) (with_some_section n).sections (some_length n)
+    ∙ (ap (λ cs. cs ++ new_cell (with_some_section n) k t ∷ []) (cells-some n)
+    ∙ ap (λ id. section_cells n ++ record { id = id; kind = k; source = chars t; before = []; saved = [] } ∷ []) (next_cell-some n))
 
 pub cell_count-section : (n : Parts) (t : List ℕ) → length (section_cells (with_item n (item.Section t))) ≡ length (section_cells n)
 cell_count-section n t = ap length (cells-section n t)
 
+pub cell_count-code : (n : Parts) (t : List ℕ) → length (section_cells (with_item n (item.Code t))) ≡ length (section_cells n) + 1
+cell_count-code n t = ap length (cells-cell n cell.Code t) ∙ length-append (section_cells n) _
+
 pub cell_count-markdown : (n : Parts) (t : List ℕ) → length (section_cells (with_item n (item.Markdown t))) ≡ length (section_cells n) + 1
-cell_count-markdown n t = ap length (cells-markdown n t) ∙ length-append (section_cells n) _
+cell_count-markdown n t = ap length (cells-cell n cell.Markdown t) ∙ length-append (section_cells n) _
+
+-- how the number of code cells grows
+code_count-append : (cs ds : List Cell) → code_count (cs ++ ds) ≡ code_count cs + code_count ds
+code_count-append [] ds = omega arith
+code_count-append (c ∷ cs) ds = let e : code_count (cs ++ ds) ≡ code_count cs + code_count ds = code_count-append cs ds in omega arith
+
+pub code_cells-section : (n : Parts) (t : List ℕ) → code_count (section_cells (with_item n (item.Section t))) ≡ code_count (section_cells n)
+code_cells-section n t = ap code_count (cells-section n t)
+
+pub code_cells-code : (n : Parts) (t : List ℕ) → code_count (section_cells (with_item n (item.Code t))) ≡ code_count (section_cells n) + 1
+code_cells-code n t = ap code_count (cells-cell n cell.Code t) ∙ code_count-append (section_cells n) _
+
+pub code_cells-markdown : (n : Parts) (t : List ℕ) → code_count (section_cells (with_item n (item.Markdown t))) ≡ code_count (section_cells n)
+code_cells-markdown n t =
+    let more : code_count (section_cells (with_item n (item.Markdown t))) ≡ code_count (section_cells n) + 0 = ap code_count (cells-cell n cell.Markdown t) ∙ code_count-append (section_cells n) _ in
+    omega (arith, more)
 
 -- the section that is made where there is none
 pub made_section : (n m : Parts) → n.sections ≡ [] → m ≡ with_section (chars (codes "Section")) n → m ≡ with_some_section n
@@ -115,12 +122,12 @@ unfolding chars
 made_section n m e h = h ∙ sym (some_section n (ap is_empty e))
 
 -- a cell pushed to the last section, as the code does it
-pub cell_pushed : (n : Parts) (s : Section) (cs : List Cell) (many : ℕ) (t source : List ℕ) (before : List (List ℕ)) (saved : List Saved) → 0 < length n.sections → many ≡ length n.sections → slice_get n.sections (many - 1) ≡ Some s → source ≡ chars t → before ≡ [] → saved ≡ []
-    → cs ≡ s.cells ++ record { id = n.next_cell; kind = cell.Markdown; source = source; before = before; saved = saved } ∷ []
-    → record n { sections = slice_set n.sections (many - 1) (record s { cells = cs }); next_cell = n.next_cell + 1 } ≡ with_cell cell.Markdown (chars t) n
-cell_pushed n s cs many t source before saved some count at e b v more =
+pub cell_pushed : (n : Parts) (s : Section) (cs : List Cell) (many : ℕ) (kind : Kind) (t source : List ℕ) (before : List (List ℕ)) (saved : List Saved) → 0 < length n.sections → many ≡ length n.sections → slice_get n.sections (many - 1) ≡ Some s → source ≡ chars t → before ≡ [] → saved ≡ []
+    → cs ≡ s.cells ++ record { id = n.next_cell; kind = kind; source = source; before = before; saved = saved } ∷ []
+    → record n { sections = slice_set n.sections (many - 1) (record s { cells = cs }); next_cell = n.next_cell + 1 } ≡ with_cell kind (chars t) n
+cell_pushed n s cs many kind t source before saved some count at e b v more =
     let there : slice_get n.sections (length n.sections - 1) ≡ Some s = rw count at at in
-    let c : Cell = record { id = n.next_cell; kind = cell.Markdown; source = chars t; before = []; saved = [] } in
+    let c : Cell = record { id = n.next_cell; kind = kind; source = chars t; before = []; saved = [] } in
     let cells : cs ≡ s.cells ++ c ∷ [] = more ∙ rw (e, b, v) refl in
     let sections : slice_set n.sections (many - 1) (record s { cells = cs }) ≡ with_last_cell c n.sections =
     ap (λ k. slice_set n.sections (k - 1) (record s { cells = cs })) count

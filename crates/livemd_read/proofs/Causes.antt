@@ -1,16 +1,13 @@
 -- A book has one cause at most for which it isn't read, beside want of memory, and none if it is accepted.
-use Rattle.std.proofs.Common.{◌≡◌, ℕ, ◌<◌, ◌≤◌, ◌⊎◌, inl, inr, List, length, Option, None, Some, refl, sym, ◌∙◌, arith, IsUtf8}
-use Rattle.std.specs.Str.Lossy.{utf8_valid_len}
+use Rattle.std.proofs.Common.{◌≡◌, ℕ, ◌<◌, ◌⊎◌, inl, inr, List, length, None, Some, refl, sym, ◌∙◌, arith}
 use Rattle.notebook.specs.declared.parts.Parts.{Parts}
 use Rattle.notebook.specs.Book.{section_cells}
 use Rattle.notebook.specs.Rules.{code_count}
 use Rattle.livemd_read.specs.declared.types.Notice.{Notice}
 use Rattle.livemd_read.specs.declared.types.BookError.{BookError}
 use Rattle.livemd_read.specs.declared.types.BookError.TheVariants.{TooLarge, NotUtf8, Unbuilt, TooManySections, TooManyCells, OutOfMemory}
-use Rattle.livemd_read.specs.Lines.{lines}
-use Rattle.livemd_read.specs.Kinds.{first_unbuilt}
 use Rattle.livemd_read.specs.Book.{book_of}
-use Rattle.livemd_read.specs.Reads.{Reads, IsSmall, IsBuilt, IsAccepted, IsBookCause, HasFewSections, HasFewCells, items_of}
+use Rattle.livemd_read.specs.Reads.{Reads, IsAccepted, IsBookCause, HasFewCells, items_of}
 
 -- a book is read as one notebook, with the same notices
 pub one_notebook : (bytes : List ℕ) (n m : Parts) (ns ms : List Notice) → Reads bytes n ns → Reads bytes m ms → n ≡ m

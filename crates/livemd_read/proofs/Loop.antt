@@ -1,18 +1,16 @@
 -- The loop over the lines of a text.
-use Rattle.std.proofs.Common.{◌≡◌, ℕ, ◌+◌, ◌-◌, ◌<◌, ◌≤◌, Bool, true, false, cond, List, [], ◌∷◌, ◌++◌, length, take, get_or, map, refl, sym, ap, ◌∙◌, arith, suc, zero, append_assoc}
+use Rattle.std.proofs.Common.{◌≡◌, ℕ, ◌+◌, ◌-◌, ◌<◌, Bool, true, false, cond, List, [], ◌∷◌, ◌++◌, length, take, get_or, map, refl, sym, ap, ◌∙◌, arith, suc, append_assoc}
 use Rattle.std.specs.Borrow.{Bor}
 use Rattle.std.specs.Prelude.{◌==◌, slice_index}
 use Rattle.std.specs.List.{slice_split}
 use Rattle.std.specs.Str.Lines as str
 use Rattle.std.proofs.lemmas.Bool.Decides.{nat_tests}
 use Rattle.std.proofs.lemmas.List.{append-nil, take_more, take_all}
-use Rattle.livemd_read.specs.declared.items.Open.{Open}
 use Rattle.livemd_read.specs.declared.items.Open.TheVariants.{Nothing}
-use Rattle.livemd_read.specs.Lines.{is_empty, drop_end, is_cr, is_lf, without_empty_last, lines}
+use Rattle.livemd_read.specs.Lines.{drop_end, is_cr, is_lf, without_empty_last, lines}
 use Rattle.livemd_read.specs.Kinds.{kinds_of}
-use Rattle.livemd_read.specs.Items.{Item}
 use Rattle.livemd_read.specs.Reads.{items_of}
-use Rattle.livemd_read.specs.Resume.{resume, Takes}
+use Rattle.livemd_read.specs.Resume.{resume}
 use Rattle.livemd_read.proofs.Trims.{drop_end-gone}
 
 is_cr_byte : (c : ℕ) → (c == 13) ≡ true → c ≡ 13
@@ -62,12 +60,3 @@ rest_end all xs e = sym (append-nil (texts xs) ∙ e)
 -- the loop begins, takes a line, and ends
 pub loop_begins : (text : List ℕ) (rest : List (List ℕ)) → str.lines text ≡ rest → resume [] Nothing (kinds_of (map (drop_end is_cr) rest)) ≡ items_of text
 loop_begins text rest e = ap (λ (ls : List (List ℕ)). resume [] Nothing (kinds_of ls)) (ap (map (drop_end is_cr)) (sym e) ∙ std_lines text)
-
-pub loop_turn : (seen : List ℕ) (all : List (List ℕ)) (xs : List (Bor (List ℕ))) (x : Bor (List ℕ)) (before after : Open) (old new : List Item) (target : List Item)
-    → seen ≡ drop_end is_cr x.now
-    → ((rest : List (List ℕ)) → all ≡ texts xs ++ rest → resume old before (kinds_of (map (drop_end is_cr) rest)) ≡ target)
-    → Takes old before new after seen
-    → (rest : List (List ℕ)) → all ≡ texts (xs ++ x ∷ []) ++ rest → resume new after (kinds_of (map (drop_end is_cr) rest)) ≡ target
-loop_turn seen all xs x before after old new target s inv step rest e =
-    step (kinds_of (map (drop_end is_cr) rest))
-    ∙ (ap (λ w. resume old before (kinds_of (w ∷ map (drop_end is_cr) rest))) s ∙ inv (x.now ∷ rest) (rest_turn all xs x rest e))

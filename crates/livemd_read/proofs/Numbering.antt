@@ -1,8 +1,8 @@
 -- The notebook of items: sections and cells are numbered from 1 in their order, and it keeps the rules.
-use Rattle.std.proofs.Common.{◌≡◌, ℕ, ◌+◌, ◌<◌, ◌≤◌, max, zero, suc, Bool, true, false, cond, List, [], ◌∷◌, ◌++◌, Option, None, Some, length, get_or, map, refl, sym, ap, ◌∙◌, arith, subst, codes, length-append}
+use Rattle.std.proofs.Common.{◌≡◌, ℕ, ◌+◌, ◌<◌, ◌≤◌, zero, suc, true, false, cond, List, [], ◌∷◌, ◌++◌, Option, None, length, map, refl, sym, ap, ◌∙◌, arith, subst, codes, length-append}
 use Rattle.std.specs.Prelude.{Contains}
 use Rattle.std.specs.Str.{chars}
-use Rattle.std.specs.List.{fold, flat_map, AllByRecursion}
+use Rattle.std.specs.List.{fold, AllByRecursion}
 use Rattle.std.proofs.lemmas.List.{append-nil, map-append}
 use Rattle.std.proofs.lemmas.Grind.{flat_map-append}
 use Rattle.std.proofs.lemmas.List.Sums.{fold-append}
@@ -11,13 +11,14 @@ use Rattle.notebook.specs.declared.parts.Section.{Section}
 use Rattle.notebook.specs.declared.parts.Parts.{Parts}
 use Rattle.notebook.specs.declared.parts.Kind.{Kind}
 use Rattle.notebook.specs.declared.parts.Kind.TheVariants as cell
-use Rattle.notebook.specs.Book.{cells_of, section_cells, untitled, empty_setup}
-use Rattle.notebook.specs.Rules.{IsNotebook, cell_number, section_number, AreDistinct, IsSectionKind, IsSectionCell, IsBelow, IsParentAmong, ParentsStand, numbered_cells, code_count, code_weight}
+use Rattle.notebook.specs.Book.{cells_of, section_cells, untitled}
+use Rattle.notebook.specs.Flow.{HasNoParent, IsUnbranched}
+use Rattle.notebook.specs.Rules.{IsNotebook, cell_number, section_number, AreDistinct, IsSectionKind, IsSectionCell, IsBelow, IsParentAmong, ParentsStand, numbered_cells}
 use Rattle.livemd_read.specs.Lines.{is_empty}
 use Rattle.livemd_read.specs.Items as item
 use Rattle.livemd_read.specs.Book.{with_section, with_some_section, with_last_cell, with_cell, with_item, book_of, notices_of}
 use Rattle.livemd_read.specs.Reads.{HasFewSections, HasFewCells}
-use Rattle.livemd_read.proofs.Building.{cells-with_last_cell, length-with_last_cell, some_length, cell_count-section, cell_count-markdown, sections-section, sections-markdown}
+use Rattle.livemd_read.proofs.Building.{cells-with_last_cell, length-with_last_cell, some_length, cell_count-section, cell_count-code, cell_count-markdown, sections-section, sections-code, sections-markdown}
 
 -- numbers that count up from the first one
 abbrev pub AreCounted : ℕ → List ℕ → Type 0
@@ -41,22 +42,17 @@ all_below : (k : ℕ) (ns : List ℕ) (next : ℕ) → AreCounted k ns → k + l
 all_below k [] next h le = tt
 all_below k (n ∷ ns) next h le = (omega (arith, h.0), all_below (suc k) ns next h.1 (omega arith))
 
-abbrev IsMarkdown : Cell → Type 0
-IsMarkdown c = c.kind ≡ cell.Markdown
-
-abbrev HasNoParent : Section → Type 0
-HasNoParent s = s.parent ≡ None
-
 all_more : {X : Type 0} (P : X → Type 0) (xs : List X) (x : X) → AllByRecursion P xs → P x → AllByRecursion P (xs ++ x ∷ [])
 all_more P [] x h p = (p, tt)
 all_more P (y ∷ xs) x h p = (h.0, all_more P xs x h.1 p)
 
 -- what holds of each notebook that items give
 pub record IsDraft (n : Parts) : Type 0 where
-  pub setup : n.setup ≡ empty_setup
+  pub setup_number : n.setup.id ≡ 0
+  pub setup_kind : n.setup.kind ≡ cell.Setup
   pub bin : n.bin ≡ []
   pub cell_numbers : AreCounted 1 (map cell_number (section_cells n))
-  pub kinds : AllByRecursion IsMarkdown (section_cells n)
+  pub kinds : AllByRecursion IsSectionCell (section_cells n)
   pub next_cell : n.next_cell ≡ length (section_cells n) + 1
   pub section_numbers : AreCounted 1 (map section_number n.sections)
   pub parents : AllByRecursion HasNoParent n.sections
@@ -72,7 +68,8 @@ IsDraft-section n t h =
     let new : Section = record { id = n.next_section; name = t; before = []; parent = None; cells = [] } in
     let cells : section_cells (with_section t n) ≡ section_cells n = flat_map-append cells_of n.sections (new ∷ []) ∙ append-nil (section_cells n) in
     record {
-      setup = h.setup;
+      setup_number = h.setup_number;
+      setup_kind = h.setup_kind;
       bin = h.bin;
       cell_numbers = rw cells h.cell_numbers;
       kinds = rw cells h.kinds;
@@ -99,15 +96,16 @@ parents-last c [] h = tt
 parents-last c (s ∷ []) h = (h.0, tt)
 parents-last c (s ∷ t ∷ ss) h = (h.0, parents-last c (t ∷ ss) h.1)
 
-IsDraft-cell : (n : Parts) (t : List ℕ) → 0 < length n.sections → IsDraft n → IsDraft (with_cell cell.Markdown t n)
-IsDraft-cell n t some h =
-    let c : Cell = record { id = n.next_cell; kind = cell.Markdown; source = t; before = []; saved = [] } in
-    let cells : section_cells (with_cell cell.Markdown t n) ≡ section_cells n ++ c ∷ [] = cells-with_last_cell c n.sections some in
+IsDraft-cell : (n : Parts) (k : Kind) (t : List ℕ) → IsSectionKind k → 0 < length n.sections → IsDraft n → IsDraft (with_cell k t n)
+IsDraft-cell n k t may some h =
+    let c : Cell = record { id = n.next_cell; kind = k; source = t; before = []; saved = [] } in
+    let cells : section_cells (with_cell k t n) ≡ section_cells n ++ c ∷ [] = cells-with_last_cell c n.sections some in
     record {
-      setup = h.setup;
+      setup_number = h.setup_number;
+      setup_kind = h.setup_kind;
       bin = h.bin;
       cell_numbers = rw (cells, map-append) (AreCounted-more 1 (map cell_number (section_cells n)) n.next_cell h.cell_numbers (h.next_cell ∙ (rw length-map (omega arith))));
-      kinds = rw cells (all_more IsMarkdown (section_cells n) c h.kinds refl);
+      kinds = rw cells (all_more IsSectionCell (section_cells n) c h.kinds may);
       next_cell = rw (cells, length-append) (omega (arith, h.next_cell));
       section_numbers = rw section_numbers-last h.section_numbers;
       parents = parents-last c n.sections h.parents;
@@ -116,7 +114,8 @@ IsDraft-cell n t some h =
 
 IsDraft-item : (n : Parts) (i : item.Item) → IsDraft n → IsDraft (with_item n i)
 IsDraft-item n (item.Name t) h = record {
-  setup = h.setup;
+  setup_number = h.setup_number;
+  setup_kind = h.setup_kind;
   bin = h.bin;
   cell_numbers = h.cell_numbers;
   kinds = h.kinds;
@@ -126,7 +125,19 @@ IsDraft-item n (item.Name t) h = record {
   next_section = h.next_section;
 }
 IsDraft-item n (item.Section t) h = IsDraft-section n (chars t) h
-IsDraft-item n (item.Markdown t) h = IsDraft-cell (with_some_section n) (chars t) (some_length n) (IsDraft-some n h)
+IsDraft-item n (item.Setup t) h = record {
+  setup_number = h.setup_number;
+  setup_kind = h.setup_kind;
+  bin = h.bin;
+  cell_numbers = h.cell_numbers;
+  kinds = h.kinds;
+  next_cell = h.next_cell;
+  section_numbers = h.section_numbers;
+  parents = h.parents;
+  next_section = h.next_section;
+}
+IsDraft-item n (item.Code t) h = IsDraft-cell (with_some_section n) cell.Code (chars t) tt (some_length n) (IsDraft-some n h)
+IsDraft-item n (item.Markdown t) h = IsDraft-cell (with_some_section n) cell.Markdown (chars t) tt (some_length n) (IsDraft-some n h)
 IsDraft-item n item.Blank h = h
 
 IsDraft-fold : (n : Parts) (is : List item.Item) → IsDraft n → IsDraft (fold with_item n is)
@@ -134,13 +145,9 @@ IsDraft-fold n [] h = h
 IsDraft-fold n (i ∷ is) h = IsDraft-fold (with_item n i) is (IsDraft-item n i h)
 
 pub IsDraft-book_of : (is : List item.Item) → IsDraft (book_of is)
-IsDraft-book_of is = IsDraft-fold untitled is (record { setup = refl; bin = refl; cell_numbers = tt; kinds = tt; next_cell = refl; section_numbers = tt; parents = tt; next_section = refl })
+IsDraft-book_of is = IsDraft-fold untitled is (record { setup_number = refl; setup_kind = refl; bin = refl; cell_numbers = tt; kinds = tt; next_cell = refl; section_numbers = tt; parents = tt; next_section = refl })
 
 -- the rules
-kinds_kept : (cs : List Cell) → AllByRecursion IsMarkdown cs → AllByRecursion IsSectionCell cs
-kinds_kept [] h = tt
-kinds_kept (c ∷ cs) h = (subst (λ (k : Kind). IsSectionKind k) (sym h.0) tt, kinds_kept cs h.1)
-
 parents_stand : (before ss : List Section) → AllByRecursion HasNoParent ss → ParentsStand before ss
 parents_stand before [] h = tt
 parents_stand before (s ∷ ss) h = (subst (λ (p : Option ℕ). IsParentAmong before p) (sym h.0) tt, parents_stand (before ++ s ∷ []) ss h.1)
@@ -153,9 +160,9 @@ IsNotebook-draft n h few few_cells =
     let cells_below : AllByRecursion (IsBelow n.next_cell) (0 ∷ map cell_number (section_cells n)) =
     (omega (arith, h.next_cell), all_below 1 (map cell_number (section_cells n)) n.next_cell h.cell_numbers (rw length-map (omega (arith, h.next_cell)))) in
     record {
-      setup_number = ap (λ (c : Cell). c.id) h.setup;
-      setup_kind = ap (λ (c : Cell). c.kind) h.setup;
-      kinds = subst (λ (cs : List Cell). AllByRecursion IsSectionCell cs) (sym cells) (kinds_kept (section_cells n) h.kinds);
+      setup_number = h.setup_number;
+      setup_kind = h.setup_kind;
+      kinds = subst (λ (cs : List Cell). AllByRecursion IsSectionCell cs) (sym cells) h.kinds;
       cell_numbers = subst (λ (cs : List Cell). AreDistinct (0 ∷ map cell_number cs)) (sym cells) cell_ns;
       next_cell = subst (λ (cs : List Cell). AllByRecursion (IsBelow n.next_cell) (0 ∷ map cell_number cs)) (sym cells) cells_below;
       section_numbers = (λ there. not_there 1 (map section_number n.sections) 0 h.section_numbers (omega arith) there, distinct 1 (map section_number n.sections) h.section_numbers);
@@ -173,12 +180,16 @@ IsNotebook-book_of is few few_cells = IsNotebook-draft (book_of is) (IsDraft-boo
 sections-item : (n : Parts) (i : item.Item) → length n.sections ≤ length (with_item n i).sections
 sections-item n (item.Name t) = omega arith
 sections-item n (item.Section t) = rw sections-section (omega arith)
+sections-item n (item.Setup t) = omega arith
+sections-item n (item.Code t) = rw sections-code (omega arith)
 sections-item n (item.Markdown t) = rw sections-markdown (omega arith)
 sections-item n item.Blank = omega arith
 
 cells-item : (n : Parts) (i : item.Item) → length (section_cells n) ≤ length (section_cells (with_item n i))
 cells-item n (item.Name t) = omega arith
 cells-item n (item.Section t) = rw (cell_count-section n t) (omega arith)
+cells-item n (item.Setup t) = omega arith
+cells-item n (item.Code t) = rw (cell_count-code n t) (omega arith)
 cells-item n (item.Markdown t) = rw (cell_count-markdown n t) (omega arith)
 cells-item n item.Blank = omega arith
 
@@ -196,18 +207,16 @@ sections-front is js = rw fold-append (sections-fold (book_of is) js)
 pub cells-front : (is js : List item.Item) → length (section_cells (book_of is)) ≤ length (section_cells (book_of (is ++ js)))
 cells-front is js = rw fold-append (cells-fold (book_of is) js)
 
--- Markdown cells aren't code
-no_code : (cs : List Cell) → AllByRecursion IsMarkdown cs → code_count cs ≡ 0
-no_code [] h = refl
-no_code (c ∷ cs) h = ap (λ k. code_weight k + code_count cs) h.0 ∙ ap (λ n. 0 + n) (no_code cs h.1)
-
-pub few_cells : (is : List item.Item) → length (section_cells (book_of is)) ≤ 4000 → HasFewCells (book_of is)
-few_cells is few = record { cells = few; code_cells = omega (arith, no_code (section_cells (book_of is)) (IsDraft-book_of is).kinds) }
+-- no section branches from another
+pub IsUnbranched-book_of : (is : List item.Item) → IsUnbranched (book_of is)
+IsUnbranched-book_of is = (IsDraft-book_of is).parents
 
 -- no item gives a notice
 pub notices_of-none : (is : List item.Item) → notices_of is ≡ []
 notices_of-none [] = refl
 notices_of-none (item.Name t ∷ is) = notices_of-none is
 notices_of-none (item.Section t ∷ is) = notices_of-none is
+notices_of-none (item.Setup t ∷ is) = notices_of-none is
+notices_of-none (item.Code t ∷ is) = notices_of-none is
 notices_of-none (item.Markdown t ∷ is) = notices_of-none is
 notices_of-none (item.Blank ∷ is) = notices_of-none is

@@ -1,10 +1,9 @@
 -- What std's trims give, as lists without the bytes at an end that pass.
-use Rattle.std.proofs.Common.{◌≡◌, ℕ, ◌+◌, ◌-◌, ◌<◌, ◌≤◌, ◌⊎◌, inl, inr, Bool, true, false, ◌&&◌, cond, List, [], ◌∷◌, ◌++◌, Option, Some, None, length, take, drop, refl, sym, ap, ◌∙◌, arith, eqb-true, eq-eqb, IfSome}
+use Rattle.std.proofs.Common.{◌≡◌, ℕ, ◌+◌, ◌-◌, ◌<◌, ◌≤◌, ◌⊎◌, inl, inr, Bool, true, false, ◌&&◌, cond, List, [], ◌∷◌, ◌++◌, Option, Some, None, length, take, drop, get_or, zero, suc, refl, sym, ap, ◌∙◌, arith, eqb-true, eq-eqb, IfSome}
 use Rattle.std.proofs.Math.Seq.{drop-length}
 use Rattle.std.specs.Prelude.{◌==◌}
-use Rattle.std.specs.Char.{len_utf8}
-use Rattle.std.specs.Str.Pattern.{FindsCharPrefix, FindsCharSuffix, CutsPrefixes, CutsSuffixes, IsFullyTrimmed, IsTrimStartMatches, IsTrimEndMatches}
-use Rattle.std.proofs.lemmas.List.{take-append-drop}
+use Rattle.std.specs.Str.Pattern.{FindsCharPrefix, FindsCharSuffix, CutsPrefixes, CutsSuffixes, IsTrimStartMatches, IsTrimEndMatches}
+use Rattle.std.proofs.lemmas.List.{take-append-drop, take_more}
 use Rattle.std.proofs.lemmas.Str.{len_utf8_ascii, encode_ascii}
 use Rattle.std.proofs.lemmas.Str.Pattern.{drop_at_char}
 use Rattle.livemd_read.specs.Lines.{is_empty, drop_end, drop_front}
@@ -88,3 +87,18 @@ whole_front c (x ∷ r) None small f z =
 -- a trim at the front
 pub trim_start-is : (c : ℕ) (s r : List ℕ) → c < 128 → IsTrimStartMatches (FindsCharPrefix c) s r → r ≡ drop_front (λ b. b == c) s
 trim_start-is c s r small h = sym (whole_front c r h.1.0 small h.1.1 h.1.2) ∙ cuts_front c s r h.0.0 small h.0.1
+
+-- an end that is found from behind
+pub cut_back : (p : ℕ → Bool) (bs : List ℕ) (n : ℕ) → 0 < n → n ≤ length bs → p (get_or bs (n - 1) 0) ≡ true → drop_end p (take n bs) ≡ drop_end p bs → drop_end p (take (n - 1) bs) ≡ drop_end p bs
+cut_back p bs n some within e h =
+    let n1 : n ≡ (n - 1) + 1 = omega arith in
+    let parts : take n bs ≡ take (n - 1) bs ++ get_or bs (n - 1) 0 ∷ [] = ap (λ m. take m bs) n1 ∙ take_more bs (n - 1) 0 (omega arith) in
+    sym (drop_end-gone p (take (n - 1) bs) (get_or bs (n - 1) 0) e) ∙ (ap (drop_end p) (sym parts) ∙ h)
+
+pub cut_ends : (p : ℕ → Bool) (bs : List ℕ) (n : ℕ) → n ≤ length bs → (0 < n → p (get_or bs (n - 1) 0) ≡ false) → drop_end p (take n bs) ≡ drop_end p bs → take n bs ≡ drop_end p bs
+cut_ends p bs zero within stops h = h
+cut_ends p bs (suc n) within stops h =
+    let parts : take (suc n) bs ≡ take n bs ++ get_or bs n 0 ∷ [] = ap (λ m. take m bs) (let e : suc n ≡ n + 1 = omega arith in e) ∙ take_more bs n 0 (omega arith) in
+    let i : suc n - 1 ≡ n = omega arith in
+    let last : p (get_or bs n 0) ≡ false = ap (λ k. p (get_or bs k 0)) (sym i) ∙ stops (omega arith) in
+    parts ∙ (sym (drop_end-kept p (take n bs) (get_or bs n 0) last) ∙ (ap (drop_end p) (sym parts) ∙ h))

@@ -1,51 +1,47 @@
 -- The search for the first line of a form that isn't built.
-use Rattle.std.proofs.Common.{◌≡◌, ℕ, ◌+◌, ◌<◌, ◌≤◌, zero, suc, Bool, true, false, cond, List, [], ◌∷◌, ◌++◌, Option, Some, None, length, take, drop, get_or, map, refl, sym, ap, ◌∙◌, arith, add-one, drop-cons}
+use Rattle.std.proofs.Common.{◌≡◌, ℕ, ◌+◌, suc, Bool, true, false, cond, List, [], ◌∷◌, ◌++◌, ◌<◌, Option, Some, None, length, take, drop, get_or, append_assoc, add-one, drop-cons, map, sym, ap, ◌∙◌, arith}
 use Rattle.std.specs.Borrow.{Bor}
 use Rattle.std.specs.Str.Lines as str
-use Rattle.std.proofs.lemmas.List.{map-append, take-append-drop}
+use Rattle.std.proofs.lemmas.List.{take-append-drop}
+use Rattle.livemd_read.specs.declared.fences.Fence.{Fence}
 use Rattle.livemd_read.specs.Lines.{drop_end, is_cr, lines}
-use Rattle.livemd_read.specs.Kinds.{is_unbuilt, first_unbuilt}
-use Rattle.livemd_read.proofs.Loop.{texts, texts-push, std_lines}
+use Rattle.livemd_read.specs.Kinds.{kinded, kinds_in, kinds_of, fence_after, is_unbuilt, first_unbuilt}
+use Rattle.livemd_read.proofs.Loop.{texts, texts-push, std_lines, rest_turn}
 
--- where the front has none, the search goes on behind it
-behind : (k : ℕ) (xs ys : List (List ℕ)) → first_unbuilt k xs ≡ None → first_unbuilt k (xs ++ ys) ≡ first_unbuilt (k + length xs) ys
-behind k [] ys e = let n : k ≡ k + 0 = omega arith in ap (λ m. first_unbuilt m ys) n
-behind k (x ∷ xs) ys e =
-    elim (is_unbuilt x)
-    as (λ b. cond b (Some k) (first_unbuilt (suc k) xs) ≡ None → cond b (Some k) (first_unbuilt (suc k) (xs ++ ys)) ≡ first_unbuilt (k + suc (length xs)) ys)
-    [ true ↦ λ h. cc | false ↦ λ h. let n : suc k + length xs ≡ k + suc (length xs) = omega arith in behind (suc k) xs ys h ∙ ap (λ m. first_unbuilt m ys) n ]
-    e
+-- what a search that stands between two lines would still find
+abbrev pub Finds : List ℕ → List (Bor (List ℕ)) → ℕ → Option Fence → Type 0
+Finds text xs number fence = (rest : List (List ℕ)) → str.lines text ≡ texts xs ++ rest → first_unbuilt 1 (kinds_of (lines text)) ≡ first_unbuilt number (kinds_in fence (map (drop_end is_cr) rest))
 
--- one line more without one
-pub none_more : (xs : List (Bor (List ℕ))) (x : Bor (List ℕ)) (seen : List ℕ) → first_unbuilt 1 (map (drop_end is_cr) (texts xs)) ≡ None → seen ≡ drop_end is_cr x.now → is_unbuilt seen ≡ false → first_unbuilt 1 (map (drop_end is_cr) (texts (xs ++ x ∷ []))) ≡ None
-none_more xs x seen none s other =
-    let front : List (List ℕ) = map (drop_end is_cr) (texts xs) in
-    let all : map (drop_end is_cr) (texts (xs ++ x ∷ [])) ≡ front ++ drop_end is_cr x.now ∷ [] =
-    ap (map (drop_end is_cr)) (texts-push xs x) ∙ map-append (drop_end is_cr) (texts xs) (x.now ∷ []) in
-    let last : is_unbuilt (drop_end is_cr x.now) ≡ false = ap (λ l. is_unbuilt l) (sym s) ∙ other in
-    ap (λ ls. first_unbuilt 1 ls) all ∙ (behind 1 front (drop_end is_cr x.now ∷ []) none ∙ ap (λ b. cond b (Some (1 + length front)) None) last)
+pub search_begins : (text : List ℕ) → Finds text [] 1 None
+search_begins text = λ rest e. ap (λ ls. first_unbuilt 1 (kinds_of ls)) (sym (std_lines text) ∙ ap (map (drop_end is_cr)) e)
 
-length-texts : (xs : List (Bor (List ℕ))) → length (map (drop_end is_cr) (texts xs)) ≡ length xs
-length-texts [] = refl
-length-texts (x ∷ xs) = ap (λ n. suc n) (length-texts xs)
+-- what is found at a line
+at_line : (text : List ℕ) (xs : List (Bor (List ℕ))) (x : Bor (List ℕ)) (seen : List ℕ) (number : ℕ) (fence : Option Fence) (found : Bool) → Finds text xs number fence → seen ≡ drop_end is_cr x.now → is_unbuilt (kinded fence seen) ≡ found
+    → (rest : List (List ℕ)) → str.lines text ≡ texts (xs ++ x ∷ []) ++ rest → first_unbuilt 1 (kinds_of (lines text)) ≡ cond found (Some number) (first_unbuilt (suc number) (kinds_in (fence_after fence seen) (map (drop_end is_cr) rest)))
+at_line text xs x seen number fence found h s f rest e =
+    let ls : List (List ℕ) = map (drop_end is_cr) rest in
+    h (x.now ∷ rest) (rest_turn (str.lines text) xs x rest e)
+    ∙ (ap (λ w. first_unbuilt number (kinds_in fence (w ∷ ls))) (sym s)
+    ∙ ap (λ (b : Bool). cond b (Some number) (first_unbuilt (suc number) (kinds_in (fence_after fence seen) ls))) f)
 
--- the line at which the search stops
-pub found_here : (text : List ℕ) (xs : List (Bor (List ℕ))) (x : Bor (List ℕ)) (seen : List ℕ) (number : ℕ) → texts xs ≡ take (length xs) (str.lines text) → length xs < length (str.lines text) → x.now ≡ get_or (str.lines text) (length xs) x.now
-    → first_unbuilt 1 (map (drop_end is_cr) (texts xs)) ≡ None → number ≡ length xs + 1 → seen ≡ drop_end is_cr x.now → is_unbuilt seen ≡ true → Some number ≡ first_unbuilt 1 (lines text)
-found_here text xs x seen number front within at none count s this =
-    let all : List (List ℕ) = str.lines text in
-    let here : drop (length xs) all ≡ x.now ∷ drop (length xs + 1) all =
-    (let one : drop (length xs) all ≡ get_or all (length xs) x.now ∷ drop (length xs + 1) all = rw add-one (drop-cons all (length xs) x.now within) in one) ∙ ap (λ y. y ∷ drop (length xs + 1) all) (sym at) in
-    let parts : all ≡ texts xs ++ x.now ∷ drop (length xs + 1) all =
-    sym (take-append-drop (length xs) all) ∙ (ap (λ ys. ys ++ drop (length xs) all) (sym front) ∙ ap (λ ys. texts xs ++ ys) here) in
-    let before : List (List ℕ) = map (drop_end is_cr) (texts xs) in
-    let after : List (List ℕ) = map (drop_end is_cr) (drop (length xs + 1) all) in
-    let ls : lines text ≡ before ++ drop_end is_cr x.now ∷ after =
-    sym (std_lines text) ∙ (ap (map (drop_end is_cr)) parts ∙ map-append (drop_end is_cr) (texts xs) (x.now ∷ drop (length xs + 1) all)) in
-    let last : is_unbuilt (drop_end is_cr x.now) ≡ true = ap (λ l. is_unbuilt l) (sym s) ∙ this in
-    let n : number ≡ 1 + length before = count ∙ (let m : length xs + 1 ≡ 1 + length before = omega (arith, length-texts xs) in m) in
-    sym (ap (λ w. first_unbuilt 1 w) ls ∙ (behind 1 before (drop_end is_cr x.now ∷ after) none ∙ (ap (λ b. cond b (Some (1 + length before)) (first_unbuilt (suc (1 + length before)) after)) last ∙ ap (λ k. Some k) (sym n))))
+pub search_goes_on : (text : List ℕ) (xs : List (Bor (List ℕ))) (x : Bor (List ℕ)) (seen : List ℕ) (number : ℕ) (fence after : Option Fence) → Finds text xs number fence → seen ≡ drop_end is_cr x.now → is_unbuilt (kinded fence seen) ≡ false → after ≡ fence_after fence seen
+    → Finds text (xs ++ x ∷ []) (number + 1) after
+search_goes_on text xs x seen number fence after h s f a = λ rest e.
+    let n : suc number ≡ number + 1 = omega arith in
+    at_line text xs x seen number fence false h s f rest e
+    ∙ (ap (λ k. first_unbuilt k (kinds_in (fence_after fence seen) (map (drop_end is_cr) rest))) n
+    ∙ ap (λ (o : Option Fence). first_unbuilt (number + 1) (kinds_in o (map (drop_end is_cr) rest))) (sym a))
 
--- no line is left
-pub found_none : (text : List ℕ) (xs : List (Bor (List ℕ))) → texts xs ≡ str.lines text → first_unbuilt 1 (map (drop_end is_cr) (texts xs)) ≡ None → None ≡ first_unbuilt 1 (lines text)
-found_none text xs all none = sym (ap (λ ls. first_unbuilt 1 ls) (sym (std_lines text) ∙ ap (map (drop_end is_cr)) (sym all)) ∙ none)
+pub search_finds : (text : List ℕ) (xs : List (Bor (List ℕ))) (x : Bor (List ℕ)) (seen : List ℕ) (number : ℕ) (fence : Option Fence) (rest : List (List ℕ)) → Finds text xs number fence → seen ≡ drop_end is_cr x.now → is_unbuilt (kinded fence seen) ≡ true → str.lines text ≡ texts (xs ++ x ∷ []) ++ rest
+    → Some number ≡ first_unbuilt 1 (kinds_of (lines text))
+search_finds text xs x seen number fence rest h s f e = sym (at_line text xs x seen number fence true h s f rest e)
+
+-- the lines after the one that was read last
+pub lines_left : (all : List (List ℕ)) (xs : List (Bor (List ℕ))) (x : Bor (List ℕ)) → texts xs ≡ take (length xs) all → length xs < length all → x.now ≡ get_or all (length xs) x.now → all ≡ texts (xs ++ x ∷ []) ++ drop (length xs + 1) all
+lines_left all xs x front within at =
+    let one : drop (length xs) all ≡ get_or all (length xs) x.now ∷ drop (length xs + 1) all = rw add-one (drop-cons all (length xs) x.now within) in
+    let here : drop (length xs) all ≡ x.now ∷ drop (length xs + 1) all = one ∙ ap (λ y. y ∷ drop (length xs + 1) all) (sym at) in
+    sym (take-append-drop (length xs) all)
+    ∙ (ap (λ ys. ys ++ drop (length xs) all) (sym front)
+    ∙ (ap (λ ys. texts xs ++ ys) here
+    ∙ (sym (append_assoc (texts xs) (x.now ∷ []) (drop (length xs + 1) all)) ∙ ap (λ w. w ++ drop (length xs + 1) all) (sym (texts-push xs x)))))

@@ -7,7 +7,7 @@ use Rattle.notebook.specs.declared.parts.Parts.{Parts}
 use Rattle.notebook.specs.declared.parts.Kind.TheVariants as cell
 use Rattle.notebook.specs.Book.{untitled}
 use Rattle.livemd_read.specs.Lines.{lines}
-use Rattle.livemd_read.specs.Kinds.{first_unbuilt}
+use Rattle.livemd_read.specs.Kinds.{first_unbuilt, kinds_of}
 use Rattle.livemd_read.specs.Book.{book_of}
 use Rattle.livemd_read.specs.Reads.{items_of}
 
@@ -18,6 +18,9 @@ text (l ∷ ls) = l ++ 10 ∷ text ls
 
 abbrev reads : List (List ℕ) → Parts
 reads ls = book_of (items_of (text ls))
+
+abbrev code : ℕ → List ℕ → Cell
+code id source = record { id = id; kind = cell.Code; source = source; before = []; saved = [] }
 
 abbrev markdown : ℕ → List ℕ → Cell
 markdown id source = record { id = id; kind = cell.Markdown; source = source; before = []; saved = [] }
@@ -91,9 +94,75 @@ letters : reads ((0xC3 ∷ 0xA9 ∷ []) ∷ []) ≡ book untitled.name (section 
 unfolding chars
 letters = refl
 
--- the first line of a form that isn't built
-unbuilt : first_unbuilt 1 (codes "# T" ∷ [] ∷ codes "## S" ∷ [] ∷ codes "```" ∷ codes "~~~" ∷ []) ≡ Some 5
-unbuilt = refl
+-- the book of one code cell behind a section
+code_cell : reads (codes "## S" ∷ codes "```elixir" ∷ codes "x = 1" ∷ codes "" ∷ codes "y" ∷ codes "```" ∷ []) ≡ book untitled.name (section 1 (codes "S") (code 1 (codes "x = 1" ++ 10 ∷ 10 ∷ codes "y") ∷ []) ∷ []) 2 2
+unfolding chars
+code_cell = refl
 
-built : first_unbuilt 1 (codes " ```" ∷ codes "``" ∷ codes "<!-- livebook" ∷ []) ≡ None
+-- a code cell that isn't closed lasts to the end of the text
+unclosed : book_of (items_of (codes "# T" ++ 10 ∷ 10 ∷ codes "## S" ++ 10 ∷ 10 ∷ codes "```elixir" ++ 10 ∷ codes "x = 1")) ≡ book (codes "T") (section 1 (codes "S") (code 1 (codes "x = 1") ∷ []) ∷ []) 2 2
+unfolding chars
+unclosed = refl
+
+-- a shorter run of backticks doesn't close it, and a longer one does, blanks at its end aside
+longer_fence : reads (codes "## S" ∷ codes "````elixir" ∷ codes "```" ∷ codes "x" ∷ codes "````` " ∷ codes "y" ∷ []) ≡ book untitled.name (section 1 (codes "S") (code 1 (codes "```" ++ 10 ∷ codes "x") ∷ markdown 2 (codes "y") ∷ []) ∷ []) 3 2
+unfolding chars
+longer_fence = refl
+
+-- a line with more than backticks doesn't close it
+marked_end : reads (codes "## S" ∷ codes "```elixir" ∷ codes "``` x" ∷ codes " ```" ∷ codes "```" ∷ []) ≡ book untitled.name (section 1 (codes "S") (code 1 (codes "``` x" ++ 10 ∷ codes " ```") ∷ []) ∷ []) 2 2
+unfolding chars
+marked_end = refl
+
+-- a heading inside a fence is code
+heading_inside : reads (codes "## S" ∷ codes "```elixir" ∷ codes "## A" ∷ codes "# T" ∷ codes "```" ∷ codes "z" ∷ []) ≡ book untitled.name (section 1 (codes "S") (code 1 (codes "## A" ++ 10 ∷ codes "# T") ∷ markdown 2 (codes "z") ∷ []) ∷ []) 3 2
+unfolding chars
+heading_inside = refl
+
+-- a text ends where a code cell begins, and the info's outer blanks don't count
+text_round_code : reads (codes "## S" ∷ codes "a" ∷ [] ∷ (codes "``` " ++ codes "elixir " ++ 9 ∷ []) ∷ codes "```" ∷ [] ∷ codes "b" ∷ []) ≡ book untitled.name (section 1 (codes "S") (markdown 1 (codes "a") ∷ code 2 [] ∷ markdown 3 (codes "b") ∷ []) ∷ []) 4 2
+unfolding chars
+text_round_code = refl
+
+-- one empty line is an empty source, too
+empty_line : reads (codes "## S" ∷ codes "```elixir" ∷ [] ∷ codes "```" ∷ []) ≡ book untitled.name (section 1 (codes "S") (code 1 [] ∷ []) ∷ []) 2 2
+unfolding chars
+empty_line = refl
+
+-- the setup cell: the first item after the name, or of a text without one
+setup_only : reads (codes "# T" ∷ [] ∷ codes "```elixir" ∷ codes "x = 1" ∷ codes "```" ∷ []) ≡ record (book (codes "T") [] 1 1) { setup = record untitled.setup { source = codes "x = 1" } }
+unfolding chars
+setup_only = refl
+
+setup_without_name : reads (codes "```elixir" ∷ codes "x = 1" ∷ codes "```" ∷ codes "# T" ∷ []) ≡ record (book untitled.name (section 1 (codes "Section") (markdown 1 (codes "# T") ∷ []) ∷ []) 2 2) { setup = record untitled.setup { source = codes "x = 1" } }
+unfolding chars
+setup_without_name = refl
+
+-- a second code cell makes the section `Section`
+setup_and_code : reads (codes "```elixir" ∷ codes "x" ∷ codes "```" ∷ codes "```elixir" ∷ codes "y" ∷ codes "```" ∷ []) ≡ record (book untitled.name (section 1 (codes "Section") (code 1 (codes "y") ∷ []) ∷ []) 2 2) { setup = record untitled.setup { source = codes "x" } }
+unfolding chars
+setup_and_code = refl
+
+-- after text or a section, code is no setup cell
+code_after_text : reads (codes "a" ∷ codes "```elixir" ∷ codes "x" ∷ codes "```" ∷ []) ≡ book untitled.name (section 1 (codes "Section") (markdown 1 (codes "a") ∷ code 2 (codes "x") ∷ []) ∷ []) 3 2
+unfolding chars
+code_after_text = refl
+
+-- the first line of a form that isn't built
+abbrev unbuilt_in : List (List ℕ) → Option ℕ
+unbuilt_in ls = first_unbuilt 1 (kinds_of ls)
+
+other_info : unbuilt_in (codes "# T" ∷ [] ∷ codes "## S" ∷ [] ∷ codes "```" ∷ codes "~~~" ∷ []) ≡ Some 5
+other_info = refl
+
+tildes : unbuilt_in (codes "```elixir" ∷ codes "~~~" ∷ codes "```" ∷ codes "~~~elixir" ∷ []) ≡ Some 4
+tildes = refl
+
+metadata : unbuilt_in (codes "```elixir" ∷ codes "<!-- livebook:x" ∷ codes "``` " ∷ codes "<!-- livebook:x" ∷ []) ≡ Some 4
+metadata = refl
+
+longer_info : unbuilt_in (codes "```elixir x" ∷ []) ≡ Some 1
+longer_info = refl
+
+built : unbuilt_in (codes " ```" ∷ codes "``" ∷ codes "```a`" ∷ codes "<!-- livebook" ∷ codes "````elixir" ∷ codes "```" ∷ codes "~~~" ∷ []) ≡ None
 built = refl

@@ -1,5 +1,5 @@
 -- The notebook of a book's items.
-use Rattle.std.specs.Prelude.{ℕ, ◌+◌, if◌then◌else◌, List, [], ◌∷◌, ◌++◌, Option, None, codes, chars}
+use Rattle.std.specs.Prelude.{ℕ, ◌+◌, if◌then◌else◌, List, [], ◌∷◌, ◌++◌, None, codes, chars}
 use Rattle.std.specs.List.{fold, flat_map}
 use Rattle.notebook.specs.declared.parts.Cell.{Cell}
 use Rattle.notebook.specs.declared.parts.Section.{Section}
@@ -39,6 +39,8 @@ with_cell kind source n = record n {
 abbrev pub with_item : Parts → item.Item → Parts
 with_item n (item.Name t) = record n { name = chars t }
 with_item n (item.Section t) = with_section (chars t) n
+with_item n (item.Setup t) = record n { setup = record n.setup { source = chars t } }
+with_item n (item.Code t) = with_cell cell.Code (chars t) (with_some_section n)
 with_item n (item.Markdown t) = with_cell cell.Markdown (chars t) (with_some_section n)
 with_item n item.Blank = n
 
@@ -50,6 +52,8 @@ book_of is = fold with_item untitled is
 abbrev pub notices_at : item.Item → List Notice
 notices_at (item.Name t) = []
 notices_at (item.Section t) = []
+notices_at (item.Setup t) = []
+notices_at (item.Code t) = []
 notices_at (item.Markdown t) = []
 notices_at item.Blank = []
 

@@ -1,5 +1,5 @@
 -- What a book is read as, and why one isn't read.
-use Rattle.std.specs.Prelude.{◌≡◌, ◌⊎◌, ℕ, ◌<◌, ◌≤◌, List, [], length, Option, Some, None, IsUtf8}
+use Rattle.std.specs.Prelude.{◌≡◌, ◌⊎◌, ℕ, ◌<◌, ◌≤◌, List, [], length, Some, None, IsUtf8}
 use Rattle.std.specs.Str.Lossy.{utf8_valid_len}
 use Rattle.notebook.specs.declared.parts.Parts.{Parts}
 use Rattle.notebook.specs.Book.{section_cells}
@@ -29,7 +29,7 @@ IsSmall bytes = length bytes ≤ 8388608
 pub record IsBuilt (bytes : List ℕ) : Type 0 where
   pub small : IsSmall bytes
   pub text : IsUtf8 bytes
-  pub forms : first_unbuilt 1 (lines bytes) ≡ None
+  pub forms : first_unbuilt 1 (kinds_of (lines bytes)) ≡ None
 
 -- at most 1,000 sections
 abbrev pub HasFewSections : Parts → Type 0
@@ -50,7 +50,7 @@ pub record IsAccepted (bytes : List ℕ) : Type 0 where
 abbrev pub IsBookCause : List ℕ → BookError → Type 0
 IsBookCause bytes TooLarge = 8388608 < length bytes
 IsBookCause bytes (NotUtf8 at) = IsSmall bytes × ((¬ IsUtf8 bytes) × (at ≡ utf8_valid_len bytes))
-IsBookCause bytes (Unbuilt line) = IsSmall bytes × (IsUtf8 bytes × (first_unbuilt 1 (lines bytes) ≡ Some line))
+IsBookCause bytes (Unbuilt line) = IsSmall bytes × (IsUtf8 bytes × (first_unbuilt 1 (kinds_of (lines bytes)) ≡ Some line))
 IsBookCause bytes TooManySections = IsBuilt bytes × (1000 < length (book_of (items_of bytes)).sections)
 IsBookCause bytes TooManyCells = IsBuilt bytes × (HasFewSections (book_of (items_of bytes))
     × ((4000 < length (section_cells (book_of (items_of bytes)))) ⊎ (1000 < code_count (section_cells (book_of (items_of bytes))))))

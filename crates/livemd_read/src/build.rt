@@ -1,8 +1,8 @@
 //! The notebook of a book's items.
 ghost use Rattle.std.specs.Prelude.{◌≡◌, ◌+◌, ◌^◌, ◌<◌, ◌≤◌, length, chars, IfOk, OnOk};
-ghost use Rattle.notebook.specs.declared.parts.Kind.TheVariants.{Markdown};
 ghost use Rattle.notebook.specs.declared.parts.Parts.{Parts};
 ghost use Rattle.notebook.specs.Book.{section_cells};
+ghost use Rattle.notebook.specs.Rules.{code_count};
 ghost use Rattle.livemd_read.specs.Book.{book_of, with_section, with_cell, with_some_section, with_item};
 ghost use Rattle.livemd_read.specs.Reads.{HasFewSections, HasFewCells};
 ghost use Rattle.livemd_read.specs.Resume.{item_of, views};
@@ -42,15 +42,15 @@ fn need_section(alloc: Global, parts: &mut Parts) -> Result<(), AllocError>
     Ok(())
 }
 
-/// Puts a Markdown cell with the next number at the end of the last section.
-fn push_cell(alloc: Global, parts: &mut Parts, source: &str) -> Result<(), AllocError>
+/// Puts a cell with the next number at the end of the last section.
+fn push_cell(alloc: Global, parts: &mut Parts, kind: Kind, source: &str) -> Result<(), AllocError>
     requires section { 0 < length parts.old.sections }
     requires number { parts.old.next_cell < 2 ^ 63 }
-    ensures ok { OnOk result (parts.new ≡ with_cell Markdown (chars source.now) parts.old) }
+    ensures ok { OnOk result (parts.new ≡ with_cell kind (chars source.now) parts.old) }
 {
     let cell = Cell {
         id: parts.next_cell,
-        kind: Kind::Markdown,
+        kind,
         source: Text::of(alloc, source)?,
         before: Items::new(alloc),
         saved: Items::new(alloc),
@@ -74,9 +74,17 @@ fn add_item(alloc: Global, parts: &mut Parts, item: &Item) -> Result<(), AllocEr
             Ok(())
         }
         Item::Section(name) => push_section(alloc, parts, name),
+        Item::Setup(source) => {
+            parts.setup.source = Text::of(alloc, source.as_str())?;
+            Ok(())
+        }
+        Item::Code(source) => {
+            need_section(alloc, parts)?;
+            push_cell(alloc, parts, Kind::Code, source.as_str())
+        }
         Item::Markdown(source) => {
             need_section(alloc, parts)?;
-            push_cell(alloc, parts, source.as_str())
+            push_cell(alloc, parts, Kind::Markdown, source.as_str())
         }
         Item::Blank => Ok(()),
     }
@@ -90,8 +98,8 @@ fn sections_with(count: usize, item: &Item) -> usize
 {
     match item {
         Item::Section(_) => count + 1,
-        Item::Markdown(_) => count.max(1),
-        Item::Name(_) | Item::Blank => count,
+        Item::Code(_) | Item::Markdown(_) => count.max(1),
+        Item::Name(_) | Item::Setup(_) | Item::Blank => count,
     }
 }
 
@@ -102,8 +110,22 @@ fn cells_with(count: usize, item: &Item) -> usize
     ensures value { (n : Parts) → length (section_cells n) ≡ count → length (section_cells (with_item n (item_of item.now))) ≡ result }
 {
     match item {
-        Item::Markdown(_) => count + 1,
-        Item::Name(_) | Item::Section(_) | Item::Blank => count,
+        Item::Code(_) | Item::Markdown(_) => count + 1,
+        Item::Name(_) | Item::Section(_) | Item::Setup(_) | Item::Blank => count,
+    }
+}
+
+/// How many code cells a notebook with so many has in its sections after an item.
+fn code_cells_with(count: usize, item: &Item) -> usize
+    requires { count < 2 ^ 63 }
+    ensures bound { result ≤ count + 1 }
+    ensures value { (n : Parts) → code_count (section_cells n) ≡ count → code_count (section_cells (with_item n (item_of item.now))) ≡ result }
+{
+    match item {
+        Item::Code(_) => count + 1,
+        Item::Name(_) | Item::Section(_) | Item::Setup(_) | Item::Markdown(_) | Item::Blank => {
+            count
+        }
     }
 }
 
@@ -125,6 +147,17 @@ pub fn cell_count(items: &[Item]) -> usize
     let mut count: usize = 0;
     for item in items {
         count = cells_with(count, item);
+    }
+    count
+}
+
+/// How many code cells the notebook of the items has in its sections.
+pub fn code_cell_count(items: &[Item]) -> usize
+    ensures { result ≡ code_count (section_cells (book_of (views items.now))) }
+{
+    let mut count: usize = 0;
+    for item in items {
+        count = code_cells_with(count, item);
     }
     count
 }

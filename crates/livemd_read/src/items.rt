@@ -1,13 +1,15 @@
 //! The items of a book, read line by line.
-ghost use Rattle.std.specs.Prelude.{◌≡◌, ◌++◌, ◌∷◌, [], IfOk, OnOk};
+ghost use Rattle.std.specs.Prelude.{◌≡◌, ◌++◌, ◌∷◌, [], List, None, Some, if◌then◌else◌, unwrap_or, IfOk, OnOk};
 ghost use Rattle.std.specs.List.{list_all};
+ghost use Rattle.std.specs.Option.{option_map};
 ghost use Rattle.std.specs.String.{string_bytes};
-ghost use Rattle.livemd_read.specs.Items.{is_blank_item};
+ghost use Rattle.livemd_read.specs.Items.{Setup, Code, code_item, is_before_setup, is_blank_item};
+ghost use Rattle.livemd_read.specs.Items as item;
 ghost use Rattle.livemd_read.specs.Reads.{items_of};
-ghost use Rattle.livemd_read.specs.Seen.{IsSeen};
-ghost use Rattle.livemd_read.specs.Resume.{item_of, views, resume, IsTextOf, Takes};
+ghost use Rattle.livemd_read.specs.Resume.{item_of, views, resume, source_after, IsTextOf, IsTextWith, Takes};
 
-use crate::kinds::{Seen, is_blank_line, see, without_crs};
+use crate::fences::Fence;
+use crate::kinds::{Seen, fence_after, is_blank_line, see, without_crs};
 use std::alloc::{AllocError, Global};
 
 /// One item of a book.
@@ -15,6 +17,10 @@ use std::alloc::{AllocError, Global};
 pub enum Item<'a> {
     Name(&'a str),
     Section(&'a str),
+    /// The setup cell with its source.
+    Setup(String),
+    /// A code cell with its source.
+    Code(String),
     /// A Markdown cell with its source.
     Markdown(String),
     /// A stretch of blank lines.
@@ -28,8 +34,18 @@ pub enum Open {
     /// A blank stretch, which is among the items already.
     Blank,
     /// Markdown text up to its last line that isn't blank, and the blank lines after that, each
-    /// behind a line feed: they belong to the text only if more of it comes.
-    Text { source: String, blanks: String },
+    /// behind a line feed: they belong to the text only if more of it comes. A fence in it may be
+    /// open.
+    Text {
+        source: String,
+        blanks: String,
+        fence: Option<Fence>,
+    },
+    /// A code cell: its fence and the lines read of it, none at first.
+    Code {
+        fence: Fence,
+        source: Option<String>,
+    },
 }
 
 fn is_blank_stretch(item: &Item) -> bool
@@ -45,13 +61,27 @@ fn is_at_name(done: &[Item]) -> bool
     done.iter().all(|item| is_blank_stretch(item))
 }
 
+fn is_before_setup(item: &Item) -> bool
+    ensures { result ≡ is_before_setup (item_of item.now) }
+{
+    matches!(item, Item::Blank | Item::Name(_))
+}
+
+/// Whether only the name and blank lines were read, so that code is the setup cell.
+fn is_at_setup(done: &[Item]) -> bool
+    ensures { result ≡ list_all (λ i. is_before_setup (item_of i)) done.now }
+{
+    done.iter().all(|item| is_before_setup(item))
+}
+
 /// The text with which Markdown text begins.
-fn open_text(alloc: Global, line: &str) -> Result<Open, AllocError>
-    ensures { IfOk result (IsTextOf line.now) }
+fn open_text(alloc: Global, line: &str, fence: Option<Fence>) -> Result<Open, AllocError>
+    ensures { IfOk result (IsTextOf line.now fence) }
 {
     Ok(Open::Text {
         source: String::from_str(alloc, line)?,
         blanks: String::new(alloc),
+        fence,
     })
 }
 
@@ -64,19 +94,24 @@ fn begin<'a>(alloc: Global, done: &mut Vec<Item<'a>>, line: &'a str) -> Result<O
             done.push(Item::Blank)?;
             Ok(Open::Blank)
         }
+        Seen::Code(fence) => Ok(Open::Code {
+            fence,
+            source: None,
+        }),
+        Seen::Fence(fence) => open_text(alloc, line, Some(fence)),
         Seen::Heading1(name) => {
             if is_at_name(done) {
                 done.push(Item::Name(name))?;
                 Ok(Open::Nothing)
             } else {
-                open_text(alloc, line)
+                open_text(alloc, line, None)
             }
         }
         Seen::Heading2(name) => {
             done.push(Item::Section(name))?;
             Ok(Open::Nothing)
         }
-        Seen::Plain => open_text(alloc, line),
+        Seen::Plain => open_text(alloc, line, None),
     }
 }
 
@@ -103,32 +138,124 @@ fn push_line(text: &mut String, line: &str) -> Result<(), AllocError>
     Ok(())
 }
 
-/// Takes a line while Markdown text is open.
-fn go_on<'a>(
-    done: &mut Vec<Item<'a>>,
+/// Puts a line of Markdown text at its end: a blank one waits until more comes.
+fn push_text(
     mut source: String,
     mut blanks: String,
+    line: &str,
+    fence: Option<Fence>,
+) -> Result<Open, AllocError>
+    ensures { IfOk result (IsTextWith (string_bytes source) (string_bytes blanks) line.now fence) }
+{
+    if is_blank_line(line) {
+        push_line(&mut blanks, line)?;
+        return Ok(Open::Text {
+            source,
+            blanks,
+            fence,
+        });
+    }
+    source.push_str(blanks.as_str())?;
+    push_line(&mut source, line)?;
+    blanks.clear();
+    Ok(Open::Text {
+        source,
+        blanks,
+        fence,
+    })
+}
+
+/// Takes a line while Markdown text is open and no fence in it.
+fn go_on<'a>(
+    done: &mut Vec<Item<'a>>,
+    source: String,
+    blanks: String,
     line: &'a str,
 ) -> Result<Open, AllocError>
-    ensures { IfOk result (λ after. Takes (views done.old.items) (Open.Text source blanks) (views done.new.items) after line.now) }
+    ensures { IfOk result (λ after. Takes (views done.old.items) (Open.Text source blanks None) (views done.new.items) after line.now) }
 {
     match see(line) {
-        Seen::Blank => {
-            push_line(&mut blanks, line)?;
-            Ok(Open::Text { source, blanks })
+        Seen::Code(fence) => {
+            done.push(Item::Markdown(source))?;
+            Ok(Open::Code {
+                fence,
+                source: None,
+            })
         }
         Seen::Heading2(name) => {
             done.push(Item::Markdown(source))?;
             done.push(Item::Section(name))?;
             Ok(Open::Nothing)
         }
-        Seen::Heading1(_) | Seen::Plain => {
-            source.push_str(blanks.as_str())?;
+        Seen::Fence(fence) => push_text(source, blanks, line, Some(fence)),
+        Seen::Blank | Seen::Heading1(_) | Seen::Plain => push_text(source, blanks, line, None),
+    }
+}
+
+/// Takes a line while Markdown text is open and a fence in it.
+fn go_on_inside(
+    source: String,
+    blanks: String,
+    fence: Fence,
+    line: &str,
+) -> Result<Open, AllocError>
+    ensures { IfOk result (λ after. (done : List item.Item) → Takes done (Open.Text source blanks (Some fence)) done after line.now) }
+{
+    push_text(source, blanks, line, fence_after(Some(fence), line))
+}
+
+/// Code with one line more.
+fn with_line(alloc: Global, source: Option<String>, line: &str) -> Result<String, AllocError>
+    ensures { IfOk result (λ s. string_bytes s ≡ source_after (option_map string_bytes source) line.now) }
+{
+    match source {
+        None => String::from_str(alloc, line),
+        Some(mut source) => {
             push_line(&mut source, line)?;
-            blanks.clear();
-            Ok(Open::Text { source, blanks })
+            Ok(source)
         }
     }
+}
+
+/// The item of a code cell, which may be the setup cell.
+fn code_cell<'a>(is_setup: bool, source: String) -> Item<'a>
+    ensures { item_of result ≡ (if is_setup then Setup (string_bytes source) else Code (string_bytes source)) }
+{
+    if is_setup {
+        Item::Setup(source)
+    } else {
+        Item::Code(source)
+    }
+}
+
+/// Puts a code cell at the end of the items.
+fn push_code(alloc: Global, done: &mut Vec<Item>, source: Option<String>) -> Result<(), AllocError>
+    ensures ok { OnOk result (views done.new.items ≡ views done.old.items ++ code_item (views done.old.items) (unwrap_or (option_map string_bytes source) []) ∷ []) }
+{
+    let source = source.unwrap_or(String::new(alloc));
+    let item = code_cell(is_at_setup(done), source);
+    done.push(item)?;
+    Ok(())
+}
+
+/// Takes a line while a code cell is open.
+fn go_on_in_code(
+    alloc: Global,
+    done: &mut Vec<Item>,
+    fence: Fence,
+    source: Option<String>,
+    line: &str,
+) -> Result<Open, AllocError>
+    ensures { IfOk result (λ after. Takes (views done.old.items) (Open.Code fence source) (views done.new.items) after line.now) }
+{
+    if fence.is_closed_by(line.as_bytes()) {
+        push_code(alloc, done, source)?;
+        return Ok(Open::Nothing);
+    }
+    Ok(Open::Code {
+        fence,
+        source: Some(with_line(alloc, source, line)?),
+    })
 }
 
 /// Takes a line.
@@ -143,20 +270,33 @@ fn take<'a>(
     match pending {
         Open::Nothing => begin(alloc, done, line),
         Open::Blank => after_blank(alloc, done, line),
-        Open::Text { source, blanks } => go_on(done, source, blanks, line),
+        Open::Text {
+            source,
+            blanks,
+            fence,
+        } => match fence {
+            None => go_on(done, source, blanks, line),
+            Some(fence) => go_on_inside(source, blanks, fence, line),
+        },
+        Open::Code { fence, source } => go_on_in_code(alloc, done, fence, source, line),
     }
 }
 
 /// Ends what is open where no line is left.
-fn finish(done: &mut Vec<Item>, pending: Open) -> Result<(), AllocError>
+fn finish(alloc: Global, done: &mut Vec<Item>, pending: Open) -> Result<(), AllocError>
     ensures ok { OnOk result (views done.new.items ≡ resume (views done.old.items) pending []) }
 {
     match pending {
         Open::Nothing | Open::Blank => Ok(()),
-        Open::Text { source, blanks: _ } => {
+        Open::Text {
+            source,
+            blanks: _,
+            fence: _,
+        } => {
             done.push(Item::Markdown(source))?;
             Ok(())
         }
+        Open::Code { fence: _, source } => push_code(alloc, done, source),
     }
 }
 
@@ -169,6 +309,6 @@ pub fn read_items(alloc: Global, text: &str) -> Result<Vec<Item<'_>>, AllocError
     for line in text.lines() {
         pending = take(alloc, &mut done, pending, without_crs(line))?;
     }
-    finish(&mut done, pending)?;
+    finish(alloc, &mut done, pending)?;
     Ok(done)
 }

@@ -5,6 +5,7 @@
 #![tactic(auto)]
 
 mod build;
+mod fences;
 mod items;
 mod kinds;
 mod reader;

@@ -4,20 +4,32 @@ use notebook::{Cell, Section};
 use std::alloc::{AllocError, Global};
 use std::test::Fail;
 
-/// A section as `number name:` and ` [number source]` for each cell.
+/// A section as `number name:` and ` [number source]` for each text, ` (number source)` for each code
+/// cell.
 fn push_section(out: &mut String, section: &Section) -> Result<(), AllocError> {
     let alloc = *out.allocator();
     out.push_str(format!(in alloc; "{} {}:", section.id, section.name.as_str())?.as_str())?;
     for cell in section.cells.as_slice() {
-        out.push_str(format!(in alloc; " [{} {}]", cell.id, cell.source.as_str())?.as_str())?;
+        let (open, close) = if cell.is_code() {
+            ("(", ")")
+        } else {
+            ("[", "]")
+        };
+        out.push_str(format!(in alloc;
+            " {}{} {}{}",
+            open,
+            cell.id,
+            cell.source.as_str(),
+            close
+        )?.as_str())?;
     }
     out.push_str("|")
 }
 
-/// A book as its name and its sections.
+/// A book as its name, the setup cell's source and its sections.
 fn shown(alloc: Global, read: &Read) -> Result<String, AllocError> {
     let parts = read.notebook.parts();
-    let mut out = format!(in alloc; "{}|", parts.name.as_str())?;
+    let mut out = format!(in alloc; "{}{}|", parts.name.as_str(), parts.setup.source.as_str())?;
     for section in parts.sections.as_slice() {
         push_section(&mut out, section)?;
     }
@@ -49,6 +61,14 @@ fn books_are_read(rt: HostRuntime) -> Result<(), Fail> {
             "Untitled notebook|1 Section: [1 ##\t]|2 \t:|",
         ),
         ("é\n", "Untitled notebook|1 Section: [1 é]|"),
+        (
+            "# T\n\n```elixir\nx\n```\na\n```elixir\n\n## A\n````\nb",
+            "Tx|1 Section: [1 a] (2 \n## A) [3 b]|",
+        ),
+        (
+            "a\n````elixir\r\n```\r\n\n",
+            "Untitled notebook|1 Section: [1 a] (2 ```\n)|",
+        ),
     ];
     for (book, wanted) in rows {
         let read = read(rt.alloc(), book.as_bytes())?;
@@ -60,13 +80,17 @@ fn books_are_read(rt: HostRuntime) -> Result<(), Fail> {
 
 #[test]
 fn books_are_refused(rt: HostRuntime) -> Result<(), Fail> {
-    let rows: [(&[u8], BookError); 6] = [
+    let rows: [(&[u8], BookError); 7] = [
         (b"\xff", BookError::NotUtf8 { at: 0 }),
         (b"a\n\xc3\xa9\xc3", BookError::NotUtf8 { at: 4 }),
         (b"# T\n\n## S\n\n```\n", BookError::Unbuilt { line: 5 }),
         (b"~~~~", BookError::Unbuilt { line: 1 }),
         (b"a\n<!-- livebook:x\n```", BookError::Unbuilt { line: 2 }),
         (b"```\xff", BookError::NotUtf8 { at: 3 }),
+        (
+            b"```elixir\n~~~\n```\n```elixir x\n",
+            BookError::Unbuilt { line: 4 },
+        ),
     ];
     for (book, wanted) in rows {
         assert_eq!(rt; read(rt.alloc(), book).err(), Some(wanted));
@@ -94,6 +118,24 @@ fn a_thousand_sections(rt: HostRuntime) -> Result<(), Fail> {
     assert_eq!(rt; more.err(), Some(BookError::TooManySections));
     let made = read(rt.alloc(), sections(rt.alloc(), "x\n", 1000)?.as_bytes());
     assert_eq!(rt; made.err(), Some(BookError::TooManySections));
+    Ok(())
+}
+
+/// So many code cells.
+fn code_cells(alloc: Global, count: u32) -> Result<String, AllocError> {
+    let mut book = String::new(alloc);
+    for _ in 0..count {
+        book.push_str("```elixir\nx\n```\n")?;
+    }
+    Ok(book)
+}
+
+#[test]
+fn a_thousand_code_cells(rt: HostRuntime) -> Result<(), Fail> {
+    let most = read(rt.alloc(), code_cells(rt.alloc(), 1001)?.as_bytes())?;
+    assert_eq!(rt; most.notebook.parts().next_cell, 1001);
+    let more = read(rt.alloc(), code_cells(rt.alloc(), 1002)?.as_bytes());
+    assert_eq!(rt; more.err(), Some(BookError::TooManyCells));
     Ok(())
 }
 

@@ -42,8 +42,8 @@ pub enum BookError {
     /// The bytes aren't UTF-8: the longest front that is has `at` bytes. Place 0 of the byte FF.
     #[error("the book is not UTF-8 from byte {at} on")]
     NotUtf8 { at: u64 },
-    /// The line, counted from 1, is the first that begins with three backticks, with `~~~` or with
-    /// `<!-- livebook:`. Such books aren't read yet.
+    /// The line, counted from 1, is the first outside code cells that begins with `<!-- livebook:` or
+    /// opens a fence that is no code cell. Such books aren't read yet.
     #[error("line {line} has a form that is not built")]
     Unbuilt { line: u64 },
     /// The notebook would have more than 1,000 sections.

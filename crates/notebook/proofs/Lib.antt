@@ -1,3 +1,4 @@
 pub mod Finding
 pub mod Sources
 pub mod Setting
+mod Worked

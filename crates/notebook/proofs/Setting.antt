@@ -1,6 +1,6 @@
 -- Writing one cell's source, as the notebook in which the cell of the number has it.
-use Rattle.std.proofs.Common.{◌≡◌, ℕ, ◌+◌, ◌<◌, Bool, true, false, List, [], ◌∷◌, ◌++◌, Option, Some, None, length, get_or, set, map, refl, sym, ap, ◌∙◌, arith, subst, eq-eqb, length-append, append_assoc}
-use Rattle.std.specs.Prelude.{◌==◌, slice_get, slice_set, IsSome}
+use Rattle.std.proofs.Common.{◌≡◌, ℕ, ◌<◌, true, false, List, [], ◌∷◌, ◌++◌, Some, None, length, get_or, set, map, refl, sym, ap, ◌∙◌, arith, eq-eqb, length-append, append_assoc}
+use Rattle.std.specs.Prelude.{◌==◌, slice_get, slice_set}
 use Rattle.std.specs.List.{flat_map}
 use Rattle.std.proofs.lemmas.Grind.{flat_map-append}
 use Rattle.std.proofs.lemmas.Option.{get_or_from_slice_get}
@@ -11,7 +11,7 @@ use Rattle.notebook.specs.declared.parts.Parts.{Parts}
 use Rattle.notebook.specs.Book.{cells, section_cells, cells_of, found, resourced_cell, resourced_cells, resourced_sections, source_for, with_source}
 use Rattle.notebook.specs.Places.{IsCellAt, IsPlace}
 use Rattle.notebook.specs.Rules.{IsNotebook, cell_number, AreDistinct, numbered_cells}
-use Rattle.notebook.proofs.Finding.{none-front, none-back, found-append-none, found-place, here-cell, here-section}
+use Rattle.notebook.proofs.Finding.{none-front, none-back, found-place, here-cell, here-section}
 use Rattle.notebook.proofs.Sources.{resourced_cells-append, resourced_sections-append, resourced_cells-none, resourced_sections-none, source_for-same, source_for-other, unfound-after}
 
 -- a place is within its list

@@ -30,6 +30,13 @@ section_code s = code_cells s.cells
 abbrev pub is_main : Section → Bool
 is_main s = is_none s.parent
 
+-- no section branches from another
+abbrev pub HasNoParent : Section → Type 0
+HasNoParent s = s.parent ≡ None
+
+abbrev pub IsUnbranched : Parts → Type 0
+IsUnbranched n = AllByRecursion HasNoParent n.sections
+
 -- the code cells of the sections that branch from none
 abbrev pub main_cells : List Section → List Cell
 main_cells ss = flat_map section_code (filter is_main ss)
@@ -98,10 +105,3 @@ passed c = record { cell = c.id; source = c.source }
 -- the cells of the flow, each with its present source
 abbrev pub path : Parts → ℕ → Option (List Passed)
 path n id = option_map (map passed) (flow n id)
-
--- no section branches from another
-abbrev pub HasNoParent : Section → Type 0
-HasNoParent s = s.parent ≡ None
-
-abbrev pub IsUnbranched : Parts → Type 0
-IsUnbranched n = AllByRecursion HasNoParent n.sections

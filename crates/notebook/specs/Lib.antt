@@ -1,5 +1,6 @@
 pub mod Book
+pub mod Flow
 pub mod Places
 pub mod Rules
-pub mod Flow
+pub mod Seen
 pub mod Validity

@@ -1,12 +1,17 @@
 //! A notebook that keeps its rules.
-ghost use Rattle.std.specs.Prelude.{◌≡◌, ◌↔◌, IsTrue, IfOk};
+ghost use Rattle.std.specs.Prelude.{◌≡◌, ◌↔◌, IsTrue, IfOk, map};
 ghost use Rattle.std.specs.Bool.{OnFalse};
-ghost use Rattle.std.specs.Option.{option_copied};
+ghost use Rattle.std.specs.Option.{option_copied, option_map};
 ghost use Rattle.notebook.specs.Book.{cells, found, IsLive, with_source, untitled};
-ghost use Rattle.notebook.specs.Rules.{IsNotebook};
+ghost use Rattle.notebook.specs.Rules.{IsNotebook, cell_number};
+ghost use Rattle.notebook.specs.Flow.{lane_of, lane_cells, flow};
+ghost use Rattle.notebook.specs.Seen.{seen};
+ghost use Rattle.notebook.specs.declared.states.PathError.TheVariants.{NoCell};
 
 use crate::cells::{place_of, set_source};
+use crate::flow::{lane_among, numbers_up_to, push_branch, push_main};
 use crate::parts::{Cell, CellId, Kind, Parts};
+use crate::states::{Lane, PathError};
 use plain_list::Items;
 use std::alloc::{AllocError, Global};
 use std::marker::Model;
@@ -110,6 +115,47 @@ impl Notebook {
     {
         set_source(&mut self.parts, cell, source)
     }
+
+    /// The lane in which the cell is evaluated; `None` exactly where no live setup or code cell has the
+    /// number. It takes no memory.
+    pub fn lane(&self, cell: CellId) -> Option<Lane>
+        ensures { result ≡ lane_of self.now cell }
+    {
+        if self.parts.setup.id == cell {
+            return Some(Lane::Main);
+        }
+        lane_among(self.parts.sections.as_slice(), cell)
+    }
+
+    /// What is evaluated one after the other in a lane: the setup cell and then code cells. For a
+    /// branch they are those of the main lane up to the end of the branch's parent, and then its own;
+    /// for a section that is none, the setup cell alone.
+    pub fn lane_cells(&self, alloc: Global, lane: Lane) -> Result<Vec<&Cell>, AllocError>
+        ensures { IfOk result (λ cells. seen cells.items ≡ lane_cells self.now lane) }
+    {
+        let mut cells = Vec::new(alloc);
+        cells.push(&self.parts.setup)?;
+        let sections = self.parts.sections.as_slice();
+        match lane {
+            Lane::Main => push_main(&mut cells, sections)?,
+            Lane::Branch(branch) => push_branch(&mut cells, sections, branch)?,
+        }
+        Ok(cells)
+    }
+
+    /// The numbers of the cells that an evaluation of the cell passes: those of its lane up to and with
+    /// the cell itself. The setup cell's path is itself.
+    pub fn path(&self, alloc: Global, cell: CellId) -> Result<Vec<CellId>, PathError>
+        ensures path { IfOk result (λ ids. Some ids.items ≡ option_map (map cell_number) (flow self.now cell)) }
+        ensures no_cell { (result ≡ Err NoCell) ↔ (lane_of self.now cell ≡ None) }
+    {
+        let Some(lane) = self.lane(cell) else {
+            return Err(PathError::NoCell);
+        };
+        let cells = self.lane_cells(alloc, lane)?;
+        let ids = numbers_up_to(alloc, &cells, cell)?;
+        Ok(ids)
+    }
 }
 
 #[cfg(test)]
@@ -130,6 +176,15 @@ mod tests {
         );
         assert!(rt; copy.find(1).is_none());
         assert_eq!(rt; copy.into_parts().next_cell, 1);
+        Ok(())
+    }
+
+    #[test]
+    fn the_setup_cell_is_its_own_path(rt: HostRuntime) -> Result<(), Fail> {
+        let book = Notebook::untitled(rt.alloc())?;
+        assert_eq!(rt; book.lane(0), Some(Lane::Main));
+        let numbers = book.path(rt.alloc(), 0)?;
+        assert_eq!(rt; numbers.as_slice(), [0].as_slice());
         Ok(())
     }
 }

@@ -6,9 +6,10 @@
 
 mod book;
 mod cells;
+mod flow;
 mod parts;
 mod states;
 
 pub use book::Notebook;
 pub use parts::{Cell, CellId, Kind, Parts, Saved, Section, SectionId};
-pub use states::{Lane, Status, Validity};
+pub use states::{Lane, PathError, Status, Validity};

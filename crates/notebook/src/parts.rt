@@ -1,6 +1,8 @@
 //! What a notebook consists of.
 ghost use Rattle.std.specs.Prelude.{◌≡◌, IfOk};
+ghost use Rattle.notebook.specs.Flow.{is_code, section_lane};
 
+use crate::states::Lane;
 use plain_list::Items;
 use std::alloc::AllocError;
 use utf16_text::Text;
@@ -53,6 +55,13 @@ pub struct Cell {
 }
 
 impl Cell {
+    /// Whether it is code of a section.
+    pub fn is_code(&self) -> bool
+        ensures { result ≡ is_code self.now }
+    {
+        matches!(self.kind, Kind::Code)
+    }
+
     /// An equal cell.
     pub fn copy(&self) -> Result<Cell, AllocError>
         ensures { IfOk result (λ c. c ≡ self.now) }
@@ -79,6 +88,16 @@ pub struct Section {
 }
 
 impl Section {
+    /// The lane in which its code is evaluated.
+    pub fn lane(&self) -> Lane
+        ensures { result ≡ section_lane self.now }
+    {
+        match self.parent {
+            None => Lane::Main,
+            Some(_) => Lane::Branch(self.id),
+        }
+    }
+
     /// An equal section.
     pub fn copy(&self) -> Result<Section, AllocError>
         ensures { IfOk result (λ s. s ≡ self.now) }

@@ -1,5 +1,10 @@
 //! Where a cell is evaluated, and what is known of its evaluation.
+ghost use Rattle.std.specs.Prelude.{◌≡◌};
+ghost use Rattle.notebook.specs.declared.states.PathError.TheVariants.{OutOfMemory};
+
 use crate::parts::SectionId;
+use std::alloc::AllocError;
+use thiserror::Error;
 
 /// Cells of one lane are evaluated one after the other; lanes don't wait for one another but where a
 /// branch begins.
@@ -33,4 +38,23 @@ pub enum Validity {
     Stale,
     /// The last attempt was broken off.
     Aborted,
+}
+
+/// Why there is no path.
+#[derive(Clone, Copy, Debug, Drop, PartialEq, Eq, Error)]
+pub enum PathError {
+    /// No live setup or code cell has the number.
+    #[error("no cell of code has the number")]
+    NoCell,
+    /// Memory ran out.
+    #[error("out of memory")]
+    OutOfMemory,
+}
+
+impl From<AllocError> for PathError {
+    ghost from_gives = { λ _ e. e ≡ OutOfMemory };
+
+    fn from(_: AllocError) -> PathError {
+        PathError::OutOfMemory
+    }
 }

@@ -7,7 +7,7 @@ use Rattle.std.proofs.lemmas.Str.{chars-IsAscii, encodes-IsAscii}
 use Rattle.std.proofs.lemmas.Str.Ascii.{IsAscii-cons, IsAscii-nil}
 use Rattle.std.proofs.lemmas.Bool.Decides.{nat_tests}
 use Rattle.script.specs.declared.line.ScriptLine.{ScriptLine}
-use Rattle.script.specs.declared.line.ScriptLine.TheVariants.{Join, Edit, Sync, Show}
+use Rattle.script.specs.declared.line.ScriptLine.TheVariants.{Join, Edit, Post, Sync, Show, Settle, Cells}
 use Rattle.script.specs.declared.content.Content.{Content}
 use Rattle.script.specs.Words.{after_word}
 use Rattle.script.specs.Name.{is_name_character, IsName}
@@ -41,6 +41,9 @@ GoesOn-push edited (Join client ∷ ls) line goes last = absurd goes
 GoesOn-push edited (Edit client cell delta ∷ ls) line goes last = (goes.0, goes.1, GoesOn-push true ls line goes.2 last)
 GoesOn-push edited (Sync ∷ ls) line goes last = GoesOn-push false ls line goes last
 GoesOn-push edited (Show client ∷ ls) line goes last = (goes.0, GoesOn-push edited ls line goes.1 last)
+GoesOn-push edited (Post client op ∷ ls) line goes last = (goes.0, GoesOn-push edited ls line goes.1 last)
+GoesOn-push edited (Settle ∷ ls) line goes last = GoesOn-push edited ls line goes last
+GoesOn-push edited (Cells ∷ ls) line goes last = GoesOn-push edited ls line goes last
 
 GoesOn-last : (edited : Bool) (ls : List ScriptLine) (line : ScriptLine) → GoesOn edited (ls ++ line ∷ []) → GoesOn (edited_after edited ls) (line ∷ [])
 GoesOn-last edited [] line goes = goes
@@ -48,6 +51,9 @@ GoesOn-last edited (Join client ∷ ls) line goes = absurd goes
 GoesOn-last edited (Edit client cell delta ∷ ls) line goes = GoesOn-last true ls line goes.2
 GoesOn-last edited (Sync ∷ ls) line goes = GoesOn-last false ls line goes
 GoesOn-last edited (Show client ∷ ls) line goes = GoesOn-last edited ls line goes.1
+GoesOn-last edited (Post client op ∷ ls) line goes = GoesOn-last edited ls line goes.1
+GoesOn-last edited (Settle ∷ ls) line goes = GoesOn-last edited ls line goes
+GoesOn-last edited (Cells ∷ ls) line goes = GoesOn-last edited ls line goes
 
 Begins-push : (ls : List ScriptLine) (line : ScriptLine) → Begins ls → GoesOn (edited_after false ls) (line ∷ []) → Begins (ls ++ line ∷ [])
 Begins-push [] line begins last = absurd begins
@@ -55,6 +61,9 @@ Begins-push (Join client ∷ ls) line begins last = (begins.0, GoesOn-push false
 Begins-push (Edit client cell delta ∷ ls) line begins last = absurd begins
 Begins-push (Sync ∷ ls) line begins last = absurd begins
 Begins-push (Show client ∷ ls) line begins last = absurd begins
+Begins-push (Post client op ∷ ls) line begins last = absurd begins
+Begins-push (Settle ∷ ls) line begins last = absurd begins
+Begins-push (Cells ∷ ls) line begins last = absurd begins
 
 Begins-last : (ls : List ScriptLine) (line : ScriptLine) → ls ≢ [] → Begins (ls ++ line ∷ []) → GoesOn (edited_after false ls) (line ∷ [])
 Begins-last [] line some begins = absurd (some refl)
@@ -62,6 +71,9 @@ Begins-last (Join client ∷ ls) line some begins = GoesOn-last false ls line be
 Begins-last (Edit client cell delta ∷ ls) line some begins = absurd begins
 Begins-last (Sync ∷ ls) line some begins = absurd begins
 Begins-last (Show client ∷ ls) line some begins = absurd begins
+Begins-last (Post client op ∷ ls) line some begins = absurd begins
+Begins-last (Settle ∷ ls) line some begins = absurd begins
+Begins-last (Cells ∷ ls) line some begins = absurd begins
 
 Begins-some : (ls : List ScriptLine) → Begins ls → ls ≢ []
 Begins-some [] begins = absurd begins
@@ -73,6 +85,9 @@ edited_after-push edited (Join client ∷ ls) line = edited_after-push edited ls
 edited_after-push edited (Edit client cell delta ∷ ls) line = edited_after-push true ls line
 edited_after-push edited (Sync ∷ ls) line = edited_after-push false ls line
 edited_after-push edited (Show client ∷ ls) line = edited_after-push edited ls line
+edited_after-push edited (Post client op ∷ ls) line = edited_after-push edited ls line
+edited_after-push edited (Settle ∷ ls) line = edited_after-push edited ls line
+edited_after-push edited (Cells ∷ ls) line = edited_after-push edited ls line
 
 -- a script with a name has no other, and begins with its join
 pub record HasName (names : List (List ℕ)) (ls : List ScriptLine) (name : List ℕ) : Type 0 where
@@ -114,6 +129,9 @@ first-line (name ∷ []) (Join client) text play is =
 first-line (name ∷ []) (Edit client cell delta) text play is = absurd play.1
 first-line (name ∷ []) (Sync) text play is = absurd play.1
 first-line (name ∷ []) (Show client) text play is = absurd play.1
+first-line (name ∷ []) (Post client op) text play is = absurd play.1
+first-line (name ∷ []) (Settle) text play is = absurd play.1
+first-line (name ∷ []) (Cells) text play is = absurd play.1
 first-line (name ∷ other ∷ names) line text play is = absurd play
 
 pub first-unfit : (text : List ℕ) → ((name : List ℕ) → ¬ (IsJoinName text name)) → (new : Content) → ¬ (IsNext no_content text new)

@@ -4,7 +4,9 @@ use Rattle.std.specs.Prelude.{slice_get}
 use Rattle.std.specs.List.{AllByRecursion}
 use Rattle.std.specs.Str.{IsUtf8}
 use Rattle.script.specs.declared.line.ScriptLine.{ScriptLine}
-use Rattle.script.specs.declared.line.ScriptLine.TheVariants.{Join, Edit, Sync, Show}
+use Rattle.script.specs.declared.line.ScriptLine.TheVariants.{Join, Edit, Post, Sync, Show, Settle, Cells}
+use Rattle.script.specs.declared.line.PostedOp.{PostedOp}
+use Rattle.script.specs.declared.line.PostedOp.TheVariants.{Queue}
 use Rattle.delta.specs.declared.Step.{Step}
 use Rattle.script.specs.declared.content.Content.{Content}
 use Rattle.std.proofs.lemmas.List.{map-append}
@@ -12,7 +14,7 @@ use Rattle.std.proofs.lemmas.List.Elements.{filter-append}
 use Rattle.script.proofs.Forms.{apart}
 use Rattle.script.specs.Words.{after_word}
 use Rattle.script.specs.Lines.{texts, said, is_skipped}
-use Rattle.script.specs.Line.{IsLine, IsEdit, IsNamed}
+use Rattle.script.specs.Line.{IsOp, IsPost, IsLine, IsEdit, IsNamed}
 use Rattle.script.specs.Play.{IsPlay}
 use Rattle.script.specs.declared.error.Refusal.{Refusal}
 use Rattle.script.specs.declared.error.Refusal.TheVariants.{Fault, OutOfMemory}
@@ -93,23 +95,65 @@ IsEdit-same name text client client' cell cell' delta delta' one other =
     let deltas : delta ≡ delta' = (cc) in
     ap (λ c. Edit c cell delta) clients ∙ ap (λ c. Edit client' c delta) cells ∙ ap (λ d. Edit client' cell' d) deltas
 
+IsOp-same : (text : List ℕ) (op op' : PostedOp) → IsOp text op → IsOp text op' → op ≡ op'
+IsOp-same text (Queue cell) (Queue cell') one other = ap Queue (one.1.value ∙ sym other.1.value)
+
+IsPost-same : (name text : List ℕ) (client client' : ℕ) (op op' : PostedOp) → IsPost (name ∷ []) text client op → IsPost (name ∷ []) text client' op' → Post client op ≡ Post client' op'
+IsPost-same name text client client' op op' one other =
+    let clients : client ≡ client' = zero-named name _ client one.name ∙ sym (zero-named name _ client' other.name) in
+    let ops : op ≡ op' = IsOp-same (after_word text) op op' one.operation other.operation in
+    ap (λ c. Post c op) clients ∙ ap (λ o. Post client' o) ops
+
 IsLine-same : (name text : List ℕ) (l m : ScriptLine) → IsLine (name ∷ []) text l → IsLine (name ∷ []) text m → l ≡ m
 IsLine-same name text (Join client) (Join client') one other = ap Join (zero-named name _ client one.1 ∙ sym (zero-named name _ client' other.1))
-IsLine-same name text (Join client) (Edit client' cell delta) one other = absurd (apart _ _ refl (sym one.0 ∙ other.0))
+IsLine-same name text (Join client) (Edit client' cell' delta') one other = absurd (apart _ _ refl (sym one.0 ∙ other.0))
+IsLine-same name text (Join client) (Post client' op') one other = absurd (apart _ _ refl (sym one.0 ∙ other.0))
 IsLine-same name text (Join client) (Sync) one other = absurd (apart _ _ refl (sym one.0 ∙ other.0))
 IsLine-same name text (Join client) (Show client') one other = absurd (apart _ _ refl (sym one.0 ∙ other.0))
+IsLine-same name text (Join client) (Settle) one other = absurd (apart _ _ refl (sym one.0 ∙ other.0))
+IsLine-same name text (Join client) (Cells) one other = absurd (apart _ _ refl (sym one.0 ∙ other.0))
 IsLine-same name text (Edit client cell delta) (Join client') one other = absurd (apart _ _ refl (sym one.0 ∙ other.0))
 IsLine-same name text (Edit client cell delta) (Edit client' cell' delta') one other = IsEdit-same name (after_word text) client client' cell cell' delta delta' one.1 other.1
+IsLine-same name text (Edit client cell delta) (Post client' op') one other = absurd (apart _ _ refl (sym one.0 ∙ other.0))
 IsLine-same name text (Edit client cell delta) (Sync) one other = absurd (apart _ _ refl (sym one.0 ∙ other.0))
 IsLine-same name text (Edit client cell delta) (Show client') one other = absurd (apart _ _ refl (sym one.0 ∙ other.0))
+IsLine-same name text (Edit client cell delta) (Settle) one other = absurd (apart _ _ refl (sym one.0 ∙ other.0))
+IsLine-same name text (Edit client cell delta) (Cells) one other = absurd (apart _ _ refl (sym one.0 ∙ other.0))
+IsLine-same name text (Post client op) (Join client') one other = absurd (apart _ _ refl (sym one.0 ∙ other.0))
+IsLine-same name text (Post client op) (Edit client' cell' delta') one other = absurd (apart _ _ refl (sym one.0 ∙ other.0))
+IsLine-same name text (Post client op) (Post client' op') one other = IsPost-same name (after_word text) client client' op op' one.1 other.1
+IsLine-same name text (Post client op) (Sync) one other = absurd (apart _ _ refl (sym one.0 ∙ other.0))
+IsLine-same name text (Post client op) (Show client') one other = absurd (apart _ _ refl (sym one.0 ∙ other.0))
+IsLine-same name text (Post client op) (Settle) one other = absurd (apart _ _ refl (sym one.0 ∙ other.0))
+IsLine-same name text (Post client op) (Cells) one other = absurd (apart _ _ refl (sym one.0 ∙ other.0))
 IsLine-same name text (Sync) (Join client') one other = absurd (apart _ _ refl (sym one.0 ∙ other.0))
 IsLine-same name text (Sync) (Edit client' cell' delta') one other = absurd (apart _ _ refl (sym one.0 ∙ other.0))
+IsLine-same name text (Sync) (Post client' op') one other = absurd (apart _ _ refl (sym one.0 ∙ other.0))
 IsLine-same name text (Sync) (Sync) one other = refl
 IsLine-same name text (Sync) (Show client') one other = absurd (apart _ _ refl (sym one.0 ∙ other.0))
+IsLine-same name text (Sync) (Settle) one other = absurd (apart _ _ refl (sym one.0 ∙ other.0))
+IsLine-same name text (Sync) (Cells) one other = absurd (apart _ _ refl (sym one.0 ∙ other.0))
 IsLine-same name text (Show client) (Join client') one other = absurd (apart _ _ refl (sym one.0 ∙ other.0))
 IsLine-same name text (Show client) (Edit client' cell' delta') one other = absurd (apart _ _ refl (sym one.0 ∙ other.0))
+IsLine-same name text (Show client) (Post client' op') one other = absurd (apart _ _ refl (sym one.0 ∙ other.0))
 IsLine-same name text (Show client) (Sync) one other = absurd (apart _ _ refl (sym one.0 ∙ other.0))
 IsLine-same name text (Show client) (Show client') one other = ap Show (zero-named name _ client one.1 ∙ sym (zero-named name _ client' other.1))
+IsLine-same name text (Show client) (Settle) one other = absurd (apart _ _ refl (sym one.0 ∙ other.0))
+IsLine-same name text (Show client) (Cells) one other = absurd (apart _ _ refl (sym one.0 ∙ other.0))
+IsLine-same name text (Settle) (Join client') one other = absurd (apart _ _ refl (sym one.0 ∙ other.0))
+IsLine-same name text (Settle) (Edit client' cell' delta') one other = absurd (apart _ _ refl (sym one.0 ∙ other.0))
+IsLine-same name text (Settle) (Post client' op') one other = absurd (apart _ _ refl (sym one.0 ∙ other.0))
+IsLine-same name text (Settle) (Sync) one other = absurd (apart _ _ refl (sym one.0 ∙ other.0))
+IsLine-same name text (Settle) (Show client') one other = absurd (apart _ _ refl (sym one.0 ∙ other.0))
+IsLine-same name text (Settle) (Settle) one other = refl
+IsLine-same name text (Settle) (Cells) one other = absurd (apart _ _ refl (sym one.0 ∙ other.0))
+IsLine-same name text (Cells) (Join client') one other = absurd (apart _ _ refl (sym one.0 ∙ other.0))
+IsLine-same name text (Cells) (Edit client' cell' delta') one other = absurd (apart _ _ refl (sym one.0 ∙ other.0))
+IsLine-same name text (Cells) (Post client' op') one other = absurd (apart _ _ refl (sym one.0 ∙ other.0))
+IsLine-same name text (Cells) (Sync) one other = absurd (apart _ _ refl (sym one.0 ∙ other.0))
+IsLine-same name text (Cells) (Show client') one other = absurd (apart _ _ refl (sym one.0 ∙ other.0))
+IsLine-same name text (Cells) (Settle) one other = absurd (apart _ _ refl (sym one.0 ∙ other.0))
+IsLine-same name text (Cells) (Cells) one other = refl
 
 AreLines-same : (name : List ℕ) (ts : List (List ℕ)) (ls ms : List ScriptLine) → AreLines (name ∷ []) ts ls → AreLines (name ∷ []) ts ms → ls ≡ ms
 AreLines-same name [] ls ms one other = AreLines-nothing (name ∷ []) ls one ∙ sym (AreLines-nothing (name ∷ []) ms other)
@@ -128,6 +172,9 @@ first-name (name ∷ []) (Join client) ls t play is =
 first-name (name ∷ []) (Edit client cell delta) ls t play is = absurd play.1
 first-name (name ∷ []) (Sync) ls t play is = absurd play.1
 first-name (name ∷ []) (Show client) ls t play is = absurd play.1
+first-name (name ∷ []) (Post client op) ls t play is = absurd play.1
+first-name (name ∷ []) (Settle) ls t play is = absurd play.1
+first-name (name ∷ []) (Cells) ls t play is = absurd play.1
 first-name (name ∷ other ∷ names) l ls t play is = absurd play
 
 -- the front of a script is the old one

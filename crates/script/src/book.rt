@@ -81,7 +81,11 @@ fn is_edited_after(edited: bool, line: &ScriptLine) -> bool
     match line {
         ScriptLine::Edit { .. } => true,
         ScriptLine::Sync => false,
-        ScriptLine::Join { .. } | ScriptLine::Show { .. } => edited,
+        ScriptLine::Join { .. }
+        | ScriptLine::Post { .. }
+        | ScriptLine::Show { .. }
+        | ScriptLine::Settle
+        | ScriptLine::Cells => edited,
     }
 }
 

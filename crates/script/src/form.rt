@@ -1,9 +1,11 @@
 //! Texts as lines of a script.
 ghost use Rattle.std.specs.Prelude.{ℕ, List, [], ◌∷◌, IfOk, MatchOption};
-ghost use Rattle.script.specs.Form.{Tells, FitsAt, IsEditLine, IsShowLine, IsSyncLine, IsJoinName};
+ghost use Rattle.script.specs.declared.line.PostedOp.{PostedOp as PostedOpValue};
+ghost use Rattle.script.specs.Line.{IsOp};
+ghost use Rattle.script.specs.Form.{Tells, FitsAt, IsEditLine, IsPostLine, IsShowLine, IsSyncLine, IsSettleLine, IsCellsLine, IsJoinName};
 
 use crate::delta_text::delta_of;
-use crate::line::ScriptLine;
+use crate::line::{PostedOp, ScriptLine};
 use crate::words::{is_name, number_of, split_word};
 use std::alloc::{AllocError, Global};
 
@@ -33,6 +35,15 @@ pub(crate) fn line_of(
     if word == "sync" {
         return Ok(sync_line(rest));
     }
+    if word == "settle" {
+        return Ok(settle_line(rest));
+    }
+    if word == "cells" {
+        return Ok(cells_line(rest));
+    }
+    if word == "post" {
+        return Ok(post_line(name, rest));
+    }
     if word == "show" {
         return Ok(show_line(name, rest));
     }
@@ -51,6 +62,52 @@ fn sync_line(rest: &str) -> Option<ScriptLine>
     } else {
         None
     }
+}
+
+/// The line of what follows `settle`: nothing.
+fn settle_line(rest: &str) -> Option<ScriptLine>
+    ensures { Tells (IsSettleLine rest.now) result }
+{
+    if rest.is_empty() {
+        Some(ScriptLine::Settle)
+    } else {
+        None
+    }
+}
+
+/// The line of what follows `cells`: nothing.
+fn cells_line(rest: &str) -> Option<ScriptLine>
+    ensures { Tells (IsCellsLine rest.now) result }
+{
+    if rest.is_empty() {
+        Some(ScriptLine::Cells)
+    } else {
+        None
+    }
+}
+
+/// The line of what follows `post`: the client's name and an operation.
+fn post_line(name: &str, rest: &str) -> Option<ScriptLine>
+    ensures { Tells (IsPostLine (name.now ∷ []) rest.now) result }
+{
+    let (poster, rest) = split_word(rest);
+    if poster != name {
+        return None;
+    }
+    let op = op_of(rest)?;
+    Some(ScriptLine::Post { client: 0, op })
+}
+
+/// The operation that a text writes: `queue` and a cell's number.
+fn op_of(text: &str) -> Option<PostedOp>
+    ensures { MatchOption result ((op : PostedOpValue) → ¬ (IsOp text.now op)) (IsOp text.now) }
+{
+    let (word, rest) = split_word(text);
+    if word != "queue" {
+        return None;
+    }
+    let cell = number_of(rest)?;
+    Some(PostedOp::Queue { cell })
 }
 
 /// The line of what follows `show`: the client's name.

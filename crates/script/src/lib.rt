@@ -17,7 +17,7 @@ mod words;
 pub use book::Script;
 pub use content::Content;
 pub use error::{LineFault, ScriptError};
-pub use line::ScriptLine;
+pub use line::{PostedOp, ScriptLine};
 pub use read::read_script;
 
 #[cfg(test)]

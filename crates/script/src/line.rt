@@ -15,10 +15,26 @@ pub enum ScriptLine {
         cell: u64,
         delta: Delta,
     },
+    /// `post NAME OP`: puts the operation at the end of the client's outbox.
+    Post {
+        client: u32,
+        op: PostedOp,
+    },
     /// `sync`: messages and answers go to and fro until none is on its way.
     Sync,
     /// `show NAME`: prints what the client holds.
     Show {
         client: u32,
     },
+    /// `settle`: evaluates what is queued until nothing is.
+    Settle,
+    /// `cells`: prints the states of the setup and code cells.
+    Cells,
+}
+
+/// An operation that a client may post.
+#[derive(Clone, Copy, Debug, PartialEq, Eq)]
+pub enum PostedOp {
+    /// `queue CELL`: to have a cell evaluated.
+    Queue { cell: u64 },
 }

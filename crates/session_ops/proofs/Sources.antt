@@ -1,12 +1,12 @@
 -- One cell's source replaced by what is made of it.
-use Rattle.std.proofs.Common.{◌≡◌, ◌≢◌, ℕ, ◌==◌, ◌<◌, Bool, true, false, if◌then◌else◌, List, [], ◌∷◌, ◌++◌, map, Option, Some, None, suc, length, refl, sym, ap, subst, ◌∙◌, arith}
+use Rattle.std.proofs.Common.{◌≡◌, ℕ, ◌==◌, Bool, true, false, if◌then◌else◌, List, [], ◌∷◌, ◌++◌, map, Some, None, suc, refl, sym, ap, subst, ◌∙◌, arith}
 use Rattle.std.specs.Prelude.{Contains}
 use Rattle.std.proofs.lemmas.Bool.Decides.{nat_tests}
-use Rattle.std.specs.List.{flat_map, AllByRecursion}
+use Rattle.std.specs.List.{flat_map}
 use Rattle.notebook.specs.declared.parts.Cell.{Cell}
 use Rattle.notebook.specs.declared.parts.Section.{Section}
 use Rattle.notebook.specs.declared.parts.Parts.{Parts}
-use Rattle.notebook.specs.Book.{cells, cells_of, section_cells, found, resourced_cell, resourced_cells, resourced_sections, resourced, source_for, with_source}
+use Rattle.notebook.specs.Book.{cells, cells_of, found, resourced_cells, resourced_sections, resourced, source_for, with_source}
 use Rattle.notebook.specs.Rules.{AreDistinct, cell_number}
 
 -- two ways to make sources that agree on each of these cells

@@ -5,7 +5,7 @@ use Rattle.delta.specs.declared.Step.TheVariants.{Retain, Insert, Delete}
 use Rattle.session_ops.specs.declared.entry.Op.{Op}
 use Rattle.session_ops.specs.declared.entry.Op.TheVariants.{Join, Delta, Queue}
 use Rattle.session_ops.specs.declared.entry.Call.{Call}
-use Rattle.session_ops.specs.declared.entry.Call.TheVariants.{Client, Start, Respond}
+use Rattle.session_ops.specs.declared.entry.Call.TheVariants.{Client}
 
 abbrev pub same_numbers : List ℕ → List ℕ → Bool
 same_numbers [] [] = true

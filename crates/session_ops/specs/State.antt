@@ -1,5 +1,5 @@
 -- What a history makes of the opening notebook, and which histories are legal.
-use Rattle.std.specs.Prelude.{◌≡◌, ℕ, ◌+◌, ◌==◌, ◌&&◌, nat_lt, nat_le, max, min, if◌then◌else◌, Bool, true, false, List, [], ◌∷◌, ◌++◌, not, length, drop, map, filter, find, Option, Some, None, IsSome, unwrap_or}
+use Rattle.std.specs.Prelude.{◌≡◌, ℕ, ◌+◌, ◌==◌, ◌&&◌, nat_lt, nat_le, max, min, if◌then◌else◌, Bool, List, [], ◌∷◌, ◌++◌, not, length, drop, map, filter, find, Option, Some, None, IsSome, unwrap_or}
 use Rattle.std.specs.Str.{encode_utf8_all}
 use Rattle.utf16_text.specs.Units.{unit_count}
 use Rattle.delta.specs.declared.Step.{Step}

@@ -1,7 +1,6 @@
 -- What is asked of the evaluators, what runs, and what was shown.
 use Rattle.std.specs.Prelude.{ℕ, ◌==◌, ◌&&◌, ◌||◌, not, Bool, true, false, if◌then◌else◌, List, [], ◌∷◌, ◌++◌, length, Option, Some, None, is_some, map, filter, find, option_map, option_and_then, unwrap_or}
 use Rattle.std.specs.List.{list_any, list_all}
-use Rattle.std.specs.Str.{encode_utf8_all}
 use Rattle.ex_model.specs.declared.ran.Outcome.{Outcome}
 use Rattle.ex_model.specs.declared.ran.Outcome.TheVariants.{Value, Fault}
 use Rattle.ex_model.specs.declared.ran.Shown.{Shown}
@@ -117,10 +116,14 @@ stands_in n cell other = list_any (is_cell cell) (unwrap_or (flow n other) [])
 abbrev pub is_due : Parts → Work → ℕ → Bool
 is_due n w cell = is_in cell w.queued || (not (is_evaluated n w cell) && list_any (stands_in n cell) w.queued)
 
--- a lane's own cells, in notebook order
+-- whether a section has the number and branches from another
+abbrev pub is_branch : ℕ → Section → Bool
+is_branch id s = is_section id s && is_some s.parent
+
+-- a lane's own cells, in notebook order; nothing where there is no such lane
 abbrev pub own_cells : Parts → Lane → List Cell
 own_cells n Main = lane_cells n Main
-own_cells n (Branch section) = unwrap_or (option_map section_code (find (is_section section) n.sections)) []
+own_cells n (Branch section) = unwrap_or (option_map section_code (find (is_branch section) n.sections)) []
 
 -- whether a cell holds up those after it no more: it isn't queued and doesn't run, is evaluated, and shows no fault
 abbrev pub is_settled : Parts → Work → ℕ → Bool

@@ -1,7 +1,10 @@
 //! Calls, replies and the entries of a history.
+ghost use Rattle.std.specs.Prelude.{◌≡◌, IfOk};
+
 use delta::Delta;
 use ex_model::Shown;
 use notebook::{CellId, Lane};
+use std::alloc::{AllocError, Global};
 
 /// What a client asks of the session.
 #[derive(Debug, Drop)]
@@ -15,7 +18,26 @@ pub enum Op {
         delta: Delta,
     },
     /// To have a setup or code cell evaluated, and before it what it stands on.
-    Queue { cell: CellId },
+    Queue {
+        cell: CellId,
+    },
+}
+
+impl Op {
+    /// An equal operation.
+    pub fn copy(&self, alloc: Global) -> Result<Op, AllocError>
+        ensures { IfOk result (λ op. op ≡ self.now) }
+    {
+        match self {
+            Op::Join => Ok(Op::Join),
+            Op::Delta { cell, base, delta } => Ok(Op::Delta {
+                cell: *cell,
+                base: *base,
+                delta: delta.copy(alloc)?,
+            }),
+            Op::Queue { cell } => Ok(Op::Queue { cell: *cell }),
+        }
+    }
 }
 
 /// One call of the session.

@@ -7,10 +7,12 @@
 
 mod book;
 mod reply;
+mod states;
 mod words;
 
 pub use book::{book_text, push_book, rev_in};
 pub use reply::{push_refusal, push_reply, reply_text};
+pub use states::push_state;
 pub use words::{push_named, push_number, push_plain, push_text};
 
 #[cfg(test)]

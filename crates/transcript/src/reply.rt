@@ -1,5 +1,6 @@
 //! The printed text of replies.
 ghost use Rattle.std.specs.Prelude.{◌≡◌, ◌++◌, OnOk, IfOk, string_bytes};
+ghost use Rattle.session_ops.specs.declared.entry.Reply.TheVariants.{Started};
 ghost use Rattle.transcript.specs.Texts.{refusal_text, reply_text as text_of_reply};
 
 use crate::words::{push_named, push_plain};
@@ -14,10 +15,12 @@ pub fn push_refusal(out: &mut String, refusal: &Refusal) -> Result<(), AllocErro
         Refusal::NotJoined => push_plain(out, "NotJoined"),
         Refusal::AlreadyJoined => push_plain(out, "AlreadyJoined"),
         Refusal::NoCell => push_plain(out, "NoCell"),
+        Refusal::NotCode => push_plain(out, "NotCode"),
         Refusal::TooNew { now } => push_named(out, "TooNew ", now),
         Refusal::TooOld { kept } => push_named(out, "TooOld ", kept),
         Refusal::PastEnd { len } => push_named(out, "PastEnd ", len),
         Refusal::SplitsPair { at } => push_named(out, "SplitsPair ", at),
+        Refusal::AncestorFailed { cell } => push_named(out, "AncestorFailed ", cell),
     }
 }
 
@@ -28,11 +31,22 @@ pub fn push_reply(out: &mut String, reply: &Reply) -> Result<(), AllocError>
     match reply {
         Reply::Accepted => push_plain(out, "ok"),
         Reply::Applied { rev, .. } => push_named(out, "accepted rev ", *rev),
+        Reply::Started { eval, cell } => push_started(out, *eval, *cell),
+        Reply::Stored { eval } => push_named(out, "stored ", *eval),
+        Reply::Late { eval } => push_named(out, "late ", *eval),
         Reply::Refused(why) => {
             push_plain(out, "refused ")?;
             push_refusal(out, why)
         }
     }
+}
+
+/// Puts the reply to a start after a text: `eval 3 cell 2`.
+fn push_started(out: &mut String, eval: u64, cell: u64) -> Result<(), AllocError>
+    ensures { OnOk result (string_bytes out.new ≡ string_bytes out.old ++ text_of_reply (Started eval cell)) }
+{
+    push_named(out, "eval ", eval)?;
+    push_named(out, " cell ", cell)
 }
 
 /// A reply's text: `ok`, `accepted rev 2` or `refused NoCell`.

@@ -1,5 +1,4 @@
-use Rattle.std.proofs.Common.{◌≡◌, ◌+◌, ◌<◌, ◌≤◌, ◌∙◌, List, drop, suc, sym, ap, add-one, length, arith}
-use Rattle.ex_model.specs.Tree.{Tree}
+use Rattle.std.proofs.Common.{drop, suc, add-one, arith}
 use Rattle.ex_machine.proofs.Bodies.{next_tree, none_left, goes_on, ends_with}
 use Rattle.ex_machine.proofs.evaluate_in_turn.Goals as goal
 

@@ -1,4 +1,4 @@
-use Rattle.std.proofs.Common.{◌≡◌, List, MatchOption, subst}
+use Rattle.std.proofs.Common.{List, MatchOption, subst}
 use Rattle.ex_model.specs.Tree.{Tree}
 use Rattle.ex_model.specs.Reads.{Reads}
 use Rattle.ex_model.specs.Means.{is_too_long, is_unread, is_read}

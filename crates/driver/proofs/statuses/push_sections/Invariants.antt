@@ -1,8 +1,13 @@
 use Rattle.std.proofs.Common.{◌≡◌, ◌++◌, drop, string_bytes}
+use Rattle.notebook.specs.declared.parts.Parts.{Parts}
+use Rattle.session_ops.specs.Work.{Work}
+use Rattle.main_lane.specs.Tracks.{Tracks}
 use Rattle.transcript.specs.Texts.{as_text}
-use Rattle.driver.specs.Transcript.{section_statuses}
+use Rattle.driver.specs.Statuses.{AllSectionsHavePaths, section_code_lines}
 use Rattle.driver.proofs.statuses.push_sections.Given as goal
 
 -- what is printed so far and the sections that are left are all
 abbrev pub invariant-loop-section : goal.invariant-loop-section
-invariant-loop-section l = string_bytes l.out ++ as_text (section_statuses (drop l.section-index l.sections)) ≡ string_bytes l.initial.out ++ as_text (section_statuses l.sections)
+invariant-loop-section l =
+    (n : Parts) (w : Work) → Tracks n w l.lane → AllSectionsHavePaths n l.sections
+    → (string_bytes l.out ++ as_text (section_code_lines n w (drop l.section-index l.sections)) ≡ string_bytes l.initial.out ++ as_text (section_code_lines n w l.sections)) × AllSectionsHavePaths n (drop l.section-index l.sections)

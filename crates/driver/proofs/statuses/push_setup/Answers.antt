@@ -4,4 +4,4 @@ use Rattle.driver.proofs.StatusLaws.{setup-some}
 use Rattle.driver.proofs.statuses.push_setup.Goals as goal
 
 pub returns : goal.returns
-returns c = c.in_ok-push_main.ensures ∙ ap (λ x. string_bytes c.args.out.now ++ x) (sym (setup-some c.args.setup.now c.if-is_empty.ensures ∙ append-nil _))
+returns c = λ n w t some. c.in_ok-push_cell.ensures n w t some ∙ ap (λ x. string_bytes c.args.out.now ++ x) (sym (setup-some n w c.args.setup.now c.if-is_empty.ensures ∙ append-nil _))

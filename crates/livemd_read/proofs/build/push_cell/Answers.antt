@@ -8,6 +8,7 @@ returns c = record {
       c.item_mut-section.result.now
       _
       _
+      c.args.kind
       c.args.source.now
       _
       _

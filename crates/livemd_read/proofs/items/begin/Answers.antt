@@ -1,11 +1,21 @@
-use Rattle.std.proofs.Common.{◌≡◌, true, false, sym, ◌∙◌, ap}
+use Rattle.std.proofs.Common.{◌≡◌, true, false, None, Some, sym, ◌∙◌, ap}
 use Rattle.std.proofs.lemmas.List.{map-append}
 use Rattle.std.proofs.lemmas.List.Folds.{list_all-map}
 use Rattle.std.proofs.lemmas.Result.{IfOk-weaker}
+use Rattle.livemd_read.specs.Kinds.{opened}
 use Rattle.livemd_read.specs.Items.{at_name, is_blank_item}
 use Rattle.livemd_read.specs.Resume.{item_of, views}
-use Rattle.livemd_read.proofs.Steps.{text_begins, cut-plain, cut-later_heading, name_taken}
+use Rattle.livemd_read.proofs.Steps.{text_begins, cut-plain, cut-later_heading, cut-other_fence, name_taken}
 use Rattle.livemd_read.proofs.items.begin.Goals as goal
+
+pub returns-in-Fence : goal.returns-in-Fence
+returns-in-Fence c =
+    IfOk-weaker
+    _
+    _
+    _
+    (λ after h. text_begins _ after c.args.line.now (Some c.in-Fence.fence) (cut-other_fence _ c.args.line.now c.in-Fence.fence c.in-Fence.ensures.0 c.in-Fence.ensures.1) c.in-Fence.ensures.0 (ap opened c.in-Fence.ensures.1.kind) h)
+    c.open_text.ensures
 
 pub returns-in_ok-push-in-Heading1 : goal.returns-in_ok-push-in-Heading1
 returns-in_ok-push-in-Heading1 c =
@@ -30,8 +40,8 @@ returns-else-is_at_name c =
     _
     _
     _
-    (λ after h. text_begins _ after c.args.line.now (cut-later_heading _ c.args.line.now c.in-Heading1.ensures.0 c.in-Heading1.ensures.1.0 later) c.in-Heading1.ensures.0 h)
-    c.open_text.ensures
+    (λ after h. text_begins _ after c.args.line.now None (cut-later_heading _ c.args.line.now c.in-Heading1.ensures.0 c.in-Heading1.ensures.1.0 later) c.in-Heading1.ensures.0 (ap opened c.in-Heading1.ensures.1.0) h)
+    c.open_text-else-is_at_name.ensures
 
 pub returns-in-Plain : goal.returns-in-Plain
 returns-in-Plain c =
@@ -39,5 +49,5 @@ returns-in-Plain c =
     _
     _
     _
-    (λ after h. text_begins _ after c.args.line.now (cut-plain _ c.args.line.now c.in-Plain.ensures.0 c.in-Plain.ensures.1) c.in-Plain.ensures.0 h)
+    (λ after h. text_begins _ after c.args.line.now None (cut-plain _ c.args.line.now c.in-Plain.ensures.0 c.in-Plain.ensures.1) c.in-Plain.ensures.0 (ap opened c.in-Plain.ensures.1) h)
     c.open_text-in-Plain.ensures

@@ -1,4 +1,4 @@
-use Rattle.std.proofs.Common.{refl, ne_eqb}
+use Rattle.std.proofs.Common.{ne_eqb}
 use Rattle.notebook.proofs.Finding.{found-more, cell_at}
 use Rattle.notebook.proofs.cells.place_in.Goals as goal
 

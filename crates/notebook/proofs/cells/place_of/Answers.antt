@@ -1,4 +1,3 @@
-use Rattle.std.proofs.Common.{refl}
 use Rattle.notebook.proofs.Finding.{found-section, place_at}
 use Rattle.notebook.proofs.cells.place_of.Goals as goal
 

@@ -18,4 +18,4 @@ returns-clause-ok c = λ n0 is b j.
     rw c.in_ok-told.ensures
     (taken-session n0 c.args.self.now _ c.args.by c.args.client c.args.cell c.args.base _ c.args.delta j.1.0 is b j.0 j.1.1.0 up
     (subst (λ d. c.push.new.self ≡ c.args.self.now.history ++ entry_of c.args.by (Client c.args.client (Delta c.args.cell c.args.base c.args.delta)) (Applied c.saturating_add-rev.result d) ∷ []) c.in_ok-kept.ensures c.in_ok-push.ensures.ok)
-    (subst (λ t. c.set_source.new.self ≡ with_source c.args.cell t c.args.self.now.book) j.1.1.1 c.set_source.ensures.set) c.raise.ensures refl)
+    (subst (λ t. c.set_source.new.self ≡ with_source c.args.cell t c.args.self.now.book) j.1.1.1 c.set_source.ensures.set) c.raise.ensures refl c.edited.ensures)

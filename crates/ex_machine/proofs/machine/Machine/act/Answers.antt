@@ -1,4 +1,4 @@
-use Rattle.std.proofs.Common.{◌≡◌, ◌∙◌, sym, ap, subst}
+use Rattle.std.proofs.Common.{subst}
 use Rattle.ex_machine.specs.Futures.{IsFrame}
 use Rattle.ex_machine.proofs.Turns.{goes_to_second, goes_to_apply}
 use Rattle.ex_machine.proofs.machine.Machine.act.Goals as goal

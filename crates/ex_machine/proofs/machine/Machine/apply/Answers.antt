@@ -1,4 +1,4 @@
-use Rattle.std.proofs.Common.{◌≡◌, ◌∙◌, sym}
+use Rattle.std.proofs.Common.{◌∙◌, sym}
 use Rattle.ex_machine.proofs.Turns.{operator_fails}
 use Rattle.ex_machine.proofs.machine.Machine.apply.Goals as goal
 

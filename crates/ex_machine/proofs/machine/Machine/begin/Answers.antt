@@ -1,4 +1,4 @@
-use Rattle.std.proofs.Common.{◌≡◌, ◌∙◌, ap, subst, ◌++◌, ◌∷◌, []}
+use Rattle.std.proofs.Common.{◌∙◌, ap, subst, ◌++◌, ◌∷◌, []}
 use Rattle.ex_model.specs.Meaning.{seen}
 use Rattle.ex_machine.specs.Futures.{Sees, spot_of}
 use Rattle.ex_machine.specs.declared.machine.Frame.TheVariants.{Bound}

@@ -1,4 +1,4 @@
-use Rattle.std.proofs.Common.{◌≡◌, ◌∙◌, sym}
+use Rattle.std.proofs.Common.{◌∙◌, sym}
 use Rattle.ex_model.specs.Bound.{put}
 use Rattle.ex_model.specs.Meaning.{Gives}
 use Rattle.ex_machine.proofs.Turns.{unpaid}

@@ -1,4 +1,4 @@
-use Rattle.std.proofs.Common.{◌≡◌, ◌∙◌, sym, subst}
+use Rattle.std.proofs.Common.{◌∙◌, sym, subst}
 use Rattle.ex_model.proofs.Arena.{at_within}
 use Rattle.ex_machine.specs.Futures.{AreFrames, IsFuture, resumed, begun}
 use Rattle.ex_machine.proofs.Turns.{unpaid, paid, meaning-begins, seen_at}

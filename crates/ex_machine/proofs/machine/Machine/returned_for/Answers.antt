@@ -1,4 +1,4 @@
-use Rattle.std.proofs.Common.{◌≡◌, ◌∙◌, sym}
+use Rattle.std.proofs.Common.{◌∙◌, sym}
 use Rattle.ex_model.specs.Meaning.{Gives}
 use Rattle.ex_machine.proofs.Turns.{unpaid}
 use Rattle.ex_machine.proofs.machine.Machine.returned_for.Goals as goal

@@ -1,4 +1,4 @@
-use Rattle.std.proofs.Common.{ne_eqb, sym, ◌∙◌, ap}
+use Rattle.std.proofs.Common.{ne_eqb, ◌∙◌, ap}
 use Rattle.notebook.specs.declared.parts.Parts.{Parts}
 use Rattle.notebook.proofs.Setting.{at-place}
 use Rattle.notebook.proofs.book.Notebook.find.Goals as goal

@@ -1,0 +1,65 @@
+-- The states of the setup and code cells, as lines.
+use Rattle.std.specs.Prelude.{ℕ, ◌==◌, if◌then◌else◌, List, [], ◌∷◌, ◌++◌, length, IsSome, option_map, unwrap_or}
+use Rattle.ex_model.specs.declared.ran.Shown.{Shown}
+use Rattle.notebook.specs.declared.parts.Cell.{Cell}
+use Rattle.notebook.specs.declared.parts.Section.{Section}
+use Rattle.notebook.specs.declared.parts.Kind.{Kind}
+use Rattle.notebook.specs.declared.parts.Kind.TheVariants.{Setup, Code, Markdown}
+use Rattle.notebook.specs.declared.parts.Parts.{Parts}
+use Rattle.notebook.specs.declared.states.Lane.{Lane}
+use Rattle.notebook.specs.declared.states.Lane.TheVariants.{Main}
+use Rattle.notebook.specs.declared.states.Validity.{Validity}
+use Rattle.notebook.specs.Flow.{path, section_lane}
+use Rattle.notebook.specs.Validity.{validity_by, status_by}
+use Rattle.session_ops.specs.Work.{Work, Finished, is_in, is_running, last_finished, path_read}
+use Rattle.transcript.specs.States.{state_line}
+
+abbrev pub shown_in : Finished → Shown
+shown_in f = f.shown
+
+-- what a cell's last evaluation is worth now
+abbrev pub validity_now : Parts → Work → ℕ → Validity
+validity_now n w cell = validity_by (is_in cell w.aborted) (option_map path_read (last_finished w cell)) (unwrap_or (path n cell) [])
+
+-- a cell of a lane, with what is asked for it and what it shows
+abbrev pub cell_line : Parts → Work → Lane → ℕ → List ℕ
+cell_line n w lane cell = state_line cell lane (status_by (is_running w cell) (is_in cell w.queued)) (validity_now n w cell) (option_map shown_in (last_finished w cell))
+
+abbrev pub line_of_kind : Parts → Work → Lane → Cell → Kind → List (List ℕ)
+line_of_kind n w lane c Setup = []
+line_of_kind n w lane c Code = cell_line n w lane c.id ∷ []
+line_of_kind n w lane c Markdown = []
+
+-- the code cells among some cells of a lane
+abbrev pub code_lines : Parts → Work → Lane → List Cell → List (List ℕ)
+code_lines n w lane [] = []
+code_lines n w lane (c ∷ cs) = line_of_kind n w lane c c.kind ++ code_lines n w lane cs
+
+abbrev pub section_code_lines : Parts → Work → List Section → List (List ℕ)
+section_code_lines n w [] = []
+section_code_lines n w (s ∷ ss) = code_lines n w (section_lane s) s.cells ++ section_code_lines n w ss
+
+-- the setup cell's line is left out where its source is empty
+abbrev pub setup_line : Parts → Work → Cell → List (List ℕ)
+setup_line n w c = if length c.source == 0 then [] else cell_line n w Main c.id ∷ []
+
+-- the states of the setup and code cells in notebook order
+abbrev pub status_lines : Parts → Work → List (List ℕ)
+status_lines n w = setup_line n w n.setup ++ section_code_lines n w n.sections
+
+-- a cell has a path; so have the code cells among some cells, and those of some sections
+abbrev pub HasPath : Parts → ℕ → Type 0
+HasPath n cell = IsSome (path n cell)
+
+abbrev pub HasPathIfCode : Parts → Cell → Kind → Type 0
+HasPathIfCode n c Setup = Unit {0}
+HasPathIfCode n c Code = HasPath n c.id
+HasPathIfCode n c Markdown = Unit {0}
+
+abbrev pub AllHavePaths : Parts → List Cell → Type 0
+AllHavePaths n [] = Unit {0}
+AllHavePaths n (c ∷ cs) = HasPathIfCode n c c.kind × AllHavePaths n cs
+
+abbrev pub AllSectionsHavePaths : Parts → List Section → Type 0
+AllSectionsHavePaths n [] = Unit {0}
+AllSectionsHavePaths n (s ∷ ss) = AllHavePaths n s.cells × AllSectionsHavePaths n ss

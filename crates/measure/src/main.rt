@@ -1,0 +1,71 @@
+//! What composing, transforming and taking turns cost: `scripts/bench` starts this program with growing numbers.
+//!
+//! Without words it does each once at a small size, and prints only what comes out, which is the same at every run.
+//! `deltas PAIRS` composes and transforms two deltas of that many pairs of steps. `turns THREADS TURNS` takes that many
+//! turns on each thread, at the turn lock and at a mutex. These two print microseconds too.
+#![tactic(auto)]
+
+mod deltas;
+mod measured;
+mod turns;
+mod words;
+
+use measured::tell;
+use std::alloc::Global;
+use std::process::ExitCode;
+use std::sync::Wait;
+use std::thread::Threads;
+use std::time::Clock;
+use std::{env, io};
+use words::{Crew, Task, task_of};
+
+fn main(rt: HostRuntime) -> io::Result<ExitCode> {
+    let alloc = rt.alloc();
+    let words: Vec<String> = env::args(&rt)?.collect(alloc)?;
+    match task_of(&words) {
+        Some(task) => {
+            run(&rt, alloc, task)?;
+            Ok(ExitCode::from(0))
+        }
+        None => {
+            eprintln!(rt; "usage: measure [deltas PAIRS | turns THREADS TURNS]")?;
+            Ok(ExitCode::from(1))
+        }
+    }
+}
+
+fn run<R: Threads + Wait + Sync + Clock + Print>(
+    rt: &R,
+    alloc: Global,
+    task: Task,
+) -> io::Result<()> {
+    match task {
+        Task::Small { crew } => {
+            run_deltas(rt, alloc, 500, false)?;
+            run_turns(rt, alloc, crew, false)?;
+            Ok(())
+        }
+        Task::Deltas { pairs } => run_deltas(rt, alloc, pairs, true),
+        Task::Turns { crew } => run_turns(rt, alloc, crew, true),
+    }
+}
+
+fn run_deltas<R: Clock + Print>(rt: &R, alloc: Global, pairs: u64, timed: bool) -> io::Result<()> {
+    let steps = deltas::measure(rt, alloc, pairs)?;
+    tell(rt, "composed steps", &steps.composed, timed)?;
+    tell(rt, "transformed steps", &steps.transformed, timed)?;
+    Ok(())
+}
+
+fn run_turns<R: Threads + Wait + Sync + Clock + Print>(
+    rt: &R,
+    alloc: Global,
+    crew: Crew,
+    timed: bool,
+) -> io::Result<()> {
+    let turn_lock = turns::at_the_turn_lock(rt, alloc, crew)?;
+    tell(rt, "turns at the turn lock", &turn_lock, timed)?;
+    let mutex = turns::at_a_mutex(rt, alloc, crew)?;
+    tell(rt, "turns at a mutex", &mutex, timed)?;
+    Ok(())
+}
