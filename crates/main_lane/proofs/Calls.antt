@@ -1,16 +1,15 @@
 -- What a lane that tracks the work answers.
-use Rattle.std.proofs.Common.{◌≡◌, ℕ, ◌+◌, ◌<◌, ◌==◌, ◌||◌, ◌&&◌, not, Bool, true, false, List, [], ◌∷◌, ◌++◌, map, length, get_or, Option, Some, None, refl, sym, ap, subst, ◌∙◌, arith, append_assoc, inl, inr, length-append}
-use Rattle.std.specs.Prelude.{if◌then◌else◌, option_map, slice_get, MatchOption}
+use Rattle.std.proofs.Common.{◌≡◌, ℕ, ◌<◌, not, true, false, List, [], ◌∷◌, ◌++◌, map, length, get_or, Some, None, refl, sym, ap, subst, ◌∙◌, arith, append_assoc, length-append}
 use Rattle.std.specs.Option.{option_copied}
-use Rattle.std.specs.List.{list_any, AllByRecursion}
+use Rattle.std.specs.List.{list_any}
 use Rattle.std.proofs.Math.Seq.{get_or-append_seam}
 use Rattle.std.proofs.lemmas.List.{append-nil}
 use Rattle.notebook.specs.declared.parts.Cell.{Cell}
 use Rattle.notebook.specs.declared.parts.Parts.{Parts}
 use Rattle.notebook.specs.declared.states.Lane.TheVariants.{Main}
-use Rattle.notebook.specs.Flow.{passed, path, lane_cells}
+use Rattle.notebook.specs.Flow.{passed, lane_cells}
 use Rattle.notebook.specs.Validity.{status_by}
-use Rattle.session_ops.specs.Work.{Work, is_in, is_running, runs_cell, failed_ancestor, may_start, is_idle, last_finished}
+use Rattle.session_ops.specs.Work.{Work, is_running, runs_cell, failed_ancestor, may_start, is_idle}
 use Rattle.session_ops.proofs.MainFlow.{has_number, Stands, AllStand, main-stands, lane-out, path-none}
 use Rattle.main_lane.specs.declared.reads.Read.{Read}
 use Rattle.main_lane.specs.declared.marks.Mark.{Mark}
@@ -19,8 +18,8 @@ use Rattle.main_lane.specs.declared.lane.Row.{Row}
 use Rattle.main_lane.specs.declared.context.Context.{Context}
 use Rattle.main_lane.specs.Marks.{IsMark, AreMarks}
 use Rattle.main_lane.specs.Judging.{any_queued, failed_before, has_mark, IsMarkAt, IsWantedAt, IsPlaceOfNext, validity_of_mark, shown_of_last}
-use Rattle.main_lane.specs.Tracks.{Tracks, IsRow, IsRowBy, shown_in}
-use Rattle.main_lane.proofs.Holding.{Holds, IsOfLane, IsHopeful, holds_of, hope_of, tracks_from}
+use Rattle.main_lane.specs.Tracks.{Tracks, IsRow, IsRowBy}
+use Rattle.main_lane.proofs.Holding.{Holds, holds_of, hope_of}
 use Rattle.main_lane.proofs.Judged.{AreJudged, all-judged, failed-ancestor, idle, marked, mark-validity, mark-shown}
 use Rattle.main_lane.proofs.Next.{JudgedCut, judged-cut, FirstWanted, first-wanted, no-place, stands-at}
 

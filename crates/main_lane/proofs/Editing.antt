@@ -1,9 +1,8 @@
 -- After one cell has another source.
-use Rattle.std.proofs.Common.{◌≡◌, ℕ, ◌+◌, ◌<◌, ◌==◌, ◌||◌, ◌&&◌, not, Bool, true, false, cond, List, [], ◌∷◌, ◌++◌, map, length, Option, Some, None, refl, sym, ap, subst, ◌∙◌, arith, append_assoc, eqb-true, eq-eqb, zero, suc}
+use Rattle.std.proofs.Common.{◌≡◌, ℕ, ◌==◌, ◌||◌, ◌&&◌, true, false, cond, List, [], ◌∷◌, ◌++◌, map, Option, Some, None, refl, sym, ap, subst, ◌∙◌, eqb-true, eq-eqb, zero, suc}
 use Rattle.std.specs.Prelude.{if◌then◌else◌, slice_get, nat_eq, option_map, filter}
-use Rattle.std.specs.List.{flat_map, list_any, AllByRecursion}
+use Rattle.std.specs.List.{flat_map, AllByRecursion}
 use Rattle.std.specs.Cmp.Lexicographic.{pointwise}
-use Rattle.std.proofs.lemmas.Bool.Decides.{nat_tests}
 use Rattle.std.proofs.lemmas.List.{length-map}
 use Rattle.std.proofs.lemmas.Option.{slice_get-map}
 use Rattle.notebook.specs.declared.parts.Cell.{Cell}
@@ -12,7 +11,7 @@ use Rattle.notebook.specs.declared.parts.Parts.{Parts}
 use Rattle.notebook.specs.declared.states.Lane.TheVariants.{Main}
 use Rattle.notebook.specs.Book.{cells, found, resourced, resourced_cell, resourced_cells, resourced_sections, source_for, with_source}
 use Rattle.notebook.specs.Rules.{cell_number, AreDistinct}
-use Rattle.notebook.specs.Flow.{Passed, passed, lane_of, lane_cells, section_code, is_code, is_cell, HasNoParent, IsUnbranched}
+use Rattle.notebook.specs.Flow.{Passed, passed, lane_cells, section_code, is_code, is_cell, HasNoParent, IsUnbranched}
 use Rattle.notebook.specs.Validity.{same_passed, same_path}
 use Rattle.notebook.proofs.Sources.{resourced_cells-append, found-resourced, live_numbers-resourced, source_for-other, with_source-none}
 use Rattle.session_ops.specs.Work.{Work, Finished, last_finished, swept}
@@ -22,12 +21,11 @@ use Rattle.main_lane.specs.declared.marks.Last.{Last}
 use Rattle.main_lane.specs.declared.marks.Mark.{Mark}
 use Rattle.main_lane.specs.declared.context.Context.{Context}
 use Rattle.main_lane.specs.declared.lane.MainLane.{MainLane}
-use Rattle.main_lane.specs.Reads.{passed_read, has_source, IsTold, AreTold, IsReadAt, ArePlaces}
-use Rattle.main_lane.specs.Marks.{passed_number, IsLast, IsLastOf, IsMark, AreMarks}
-use Rattle.main_lane.specs.Judging.{reread, reread_all, is_same_read, is_same_at, are_same, refreshed_last, refreshed, refreshed_all, swept_marks}
-use Rattle.main_lane.specs.Contexts.{IsContext}
+use Rattle.main_lane.specs.Reads.{passed_read, has_source, IsTold, AreTold, ArePlaces}
+use Rattle.main_lane.specs.Marks.{passed_number, IsLastOf, IsMark, AreMarks}
+use Rattle.main_lane.specs.Judging.{reread, reread_all, is_same_read, are_same, refreshed_last, refreshed, refreshed_all, swept_marks}
 use Rattle.main_lane.specs.Tracks.{Tracks}
-use Rattle.main_lane.proofs.Holding.{Holds, IsOfLane, IsHopeful, holds_of, hope_of, tracks_from}
+use Rattle.main_lane.proofs.Holding.{Holds, IsOfLane, holds_of, hope_of, tracks_from}
 use Rattle.main_lane.proofs.Sweeping.{holds-swept, swept-hopeful, holds-unswept, unswept}
 use Rattle.main_lane.proofs.Queueing.{all-more}
 

@@ -1,12 +1,10 @@
 -- After an evaluation that began and was answered.
-use Rattle.std.proofs.Common.{◌≡◌, ℕ, ◌+◌, ◌<◌, ◌==◌, ◌||◌, ◌&&◌, not, Bool, true, false, cond, List, [], ◌∷◌, ◌++◌, map, length, Option, Some, None, refl, sym, ap, subst, ◌∙◌, arith, append_assoc, length-append, zero, suc}
-use Rattle.std.specs.Prelude.{if◌then◌else◌, option_map, slice_get, slice_set, find, filter, unwrap_or, nat_eq}
+use Rattle.std.proofs.Common.{◌≡◌, ℕ, ◌+◌, ◌==◌, ◌&&◌, not, true, false, cond, List, [], ◌∷◌, ◌++◌, map, length, Option, Some, None, refl, sym, ap, subst, ◌∙◌, length-append, zero, suc}
+use Rattle.std.specs.Prelude.{option_map, slice_get, slice_set, find, unwrap_or, nat_eq}
 use Rattle.std.specs.Cmp.Lexicographic.{pointwise}
 use Rattle.std.specs.List.{AllByRecursion}
-use Rattle.std.proofs.lemmas.Bool.Decides.{nat_tests}
-use Rattle.std.proofs.lemmas.List.{append-nil, map-append}
+use Rattle.std.proofs.lemmas.List.{map-append}
 use Rattle.std.proofs.Math.Seq.{set-append_seam}
-use Rattle.ex_model.specs.declared.bindings.Binding.{Binding}
 use Rattle.ex_model.specs.declared.ran.Ran.{Ran}
 use Rattle.ex_model.specs.declared.ran.Shown.{Shown}
 use Rattle.ex_model.specs.declared.ran.Outcome.{Outcome}
@@ -18,10 +16,9 @@ use Rattle.notebook.specs.declared.parts.Parts.{Parts}
 use Rattle.notebook.specs.declared.states.Lane.TheVariants.{Main}
 use Rattle.notebook.specs.Book.{cells, found}
 use Rattle.notebook.specs.Flow.{Passed, passed, path, lane_cells}
-use Rattle.notebook.specs.Validity.{same_path}
-use Rattle.session_ops.specs.Work.{Work, Running, Finished, is_in, is_other, without_number, is_of_cell, last_finished, begun, running_eval, is_eval, is_other_eval, stored, swept}
+use Rattle.session_ops.specs.Work.{Work, Running, Finished, is_in, is_other, without_number, is_of_cell, last_finished, begun, running_eval, stored, swept}
 use Rattle.session_ops.specs.State.{source_bytes, ShowsAlong}
-use Rattle.session_ops.proofs.MainFlow.{AreApart, main-apart}
+use Rattle.session_ops.proofs.MainFlow.{main-apart}
 use Rattle.main_lane.specs.declared.reads.Read.{Read}
 use Rattle.main_lane.specs.declared.marks.Last.{Last}
 use Rattle.main_lane.specs.declared.marks.Mark.{Mark}
@@ -29,13 +26,13 @@ use Rattle.main_lane.specs.declared.context.Context.{Context}
 use Rattle.main_lane.specs.declared.lane.MainLane.{MainLane}
 use Rattle.main_lane.specs.declared.lane.Evaluated.{Evaluated}
 use Rattle.main_lane.specs.Reads.{passed_read, has_source, IsTold, AreTold, IsReadAt, ArePlaces}
-use Rattle.main_lane.specs.Marks.{passed_number, IsLast, IsLastOf, IsMark, AreMarks}
-use Rattle.main_lane.specs.Contexts.{HasAfter, IsContext, HasAdvanced}
+use Rattle.main_lane.specs.Marks.{IsLastOf, IsMark, AreMarks}
+use Rattle.main_lane.specs.Contexts.{IsContext, HasAdvanced}
 use Rattle.main_lane.specs.Judging.{stored_mark, swept_marks, path_before}
 use Rattle.main_lane.specs.Tracks.{Tracks, once_begun, once_stored, HasEvaluated}
 use Rattle.main_lane.proofs.Holding.{Holds, IsOfLane, IsHopeful, holds_of, hope_of, tracks_from}
 use Rattle.main_lane.proofs.Sweeping.{is_in-filter, unswept, all-filter, holds-swept, swept-hopeful}
-use Rattle.main_lane.proofs.Queueing.{SameFor, SameBut, marks-replaced, all-more}
+use Rattle.main_lane.proofs.Queueing.{SameBut, marks-replaced, all-more}
 use Rattle.main_lane.proofs.Calls.{MarksCut}
 use Rattle.main_lane.proofs.Ready.{Ready, text-self, path-self}
 use Rattle.main_lane.proofs.Small.{and-true, and-false, equal-self, not-equal}

@@ -1,5 +1,5 @@
 -- What a lane holds, by its parts, before the queued cells without hope are taken out.
-use Rattle.std.proofs.Common.{◌≡◌, ℕ, List, [], ◌∷◌, map, length, Option, None, Some}
+use Rattle.std.proofs.Common.{◌≡◌, ℕ, List, [], ◌∷◌, map, length, None, Some}
 use Rattle.std.specs.List.{AllByRecursion}
 use Rattle.notebook.specs.declared.parts.Parts.{Parts}
 use Rattle.notebook.specs.declared.states.Lane.TheVariants.{Main}

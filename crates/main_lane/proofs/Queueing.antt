@@ -1,8 +1,7 @@
 -- One mark changes with the work on its cell.
-use Rattle.std.proofs.Common.{◌≡◌, ℕ, ◌+◌, ◌<◌, ◌==◌, ◌||◌, ◌&&◌, not, Bool, true, false, cond, List, [], ◌∷◌, ◌++◌, map, length, set, get_or, Option, Some, None, refl, sym, ap, subst, ◌∙◌, arith, append_assoc, eqb-true}
-use Rattle.std.specs.Prelude.{if◌then◌else◌, slice_set, find, Contains}
+use Rattle.std.proofs.Common.{◌≡◌, ℕ, ◌==◌, ◌||◌, true, false, List, [], ◌∷◌, ◌++◌, map, length, get_or, Some, None, refl, sym, ap, subst, ◌∙◌}
+use Rattle.std.specs.Prelude.{if◌then◌else◌, slice_set, Contains}
 use Rattle.std.specs.List.{AllByRecursion}
-use Rattle.std.proofs.lemmas.Bool.Decides.{nat_tests}
 use Rattle.std.proofs.lemmas.List.{map-append}
 use Rattle.std.proofs.lemmas.List.Elements.{Contains-append_left}
 use Rattle.std.proofs.Math.Seq.{set-append_seam}
@@ -12,8 +11,8 @@ use Rattle.notebook.specs.declared.parts.Parts.{Parts}
 use Rattle.notebook.specs.declared.states.Lane.TheVariants.{Main}
 use Rattle.notebook.specs.Book.{cells, section_cells}
 use Rattle.notebook.specs.Rules.{cell_number, AreDistinct, IsNotebook}
-use Rattle.notebook.specs.Flow.{IsUnbranched, Passed, passed, lane_of, lane_cells, is_cell}
-use Rattle.session_ops.specs.Work.{Work, Finished, no_work, is_in, with_number, last_finished, failed_ancestor, swept}
+use Rattle.notebook.specs.Flow.{IsUnbranched, passed, lane_of, lane_cells, is_cell}
+use Rattle.session_ops.specs.Work.{Work, no_work, is_in, with_number, last_finished, failed_ancestor, swept}
 use Rattle.session_ops.proofs.MainFlow.{has_number, or_first, or_second, AreApart, main-apart, apart-front, apart-back, in-lane, main-line}
 use Rattle.main_lane.specs.declared.reads.Read.{Read}
 use Rattle.main_lane.specs.declared.marks.Mark.{Mark}

@@ -1,9 +1,8 @@
 -- What stands ready for the evaluation of the cell that may start.
-use Rattle.std.proofs.Common.{◌≡◌, ℕ, ◌+◌, ◌<◌, ◌==◌, ◌||◌, ◌&&◌, not, Bool, true, false, cond, List, [], ◌∷◌, ◌++◌, map, length, get_or, Option, Some, None, refl, sym, ap, subst, ◌∙◌, arith, append_assoc, eqb-true}
-use Rattle.std.specs.Prelude.{option_map, slice_get, find, nat_eq}
+use Rattle.std.proofs.Common.{◌≡◌, ℕ, ◌<◌, ◌==◌, ◌&&◌, not, true, false, List, [], ◌∷◌, ◌++◌, map, length, get_or, Option, Some, None, refl, sym, ap, subst, ◌∙◌, append_assoc, eqb-true}
+use Rattle.std.specs.Prelude.{slice_get, find, nat_eq}
 use Rattle.std.specs.Cmp.Lexicographic.{pointwise, same_text}
 use Rattle.std.specs.List.{AllByRecursion}
-use Rattle.std.proofs.lemmas.Bool.Decides.{nat_tests}
 use Rattle.std.proofs.lemmas.List.{append-nil}
 use Rattle.std.proofs.lemmas.Option.{slice_get_read}
 use Rattle.std.proofs.Math.Seq.{get_or-append_seam}
@@ -30,10 +29,10 @@ use Rattle.main_lane.specs.Reads.{ArePlaces}
 use Rattle.main_lane.specs.Marks.{IsLastOf, IsMark, AreMarks}
 use Rattle.main_lane.specs.Contexts.{HasAfter}
 use Rattle.main_lane.specs.Judging.{any_queued, is_current, ends_in_fault, is_evaluated_mark, is_failed_mark, IsDone, IsWantedAt, IsPlaceOfNext, path_of_last, path_of_mark, path_before}
-use Rattle.main_lane.specs.Tracks.{Tracks, IsNext, cell_of, found_at}
-use Rattle.main_lane.proofs.Holding.{Holds, IsOfLane, IsHopeful, holds_of, hope_of, tracks_from}
-use Rattle.main_lane.proofs.Judged.{Judged, AreJudged, judged, all-judged}
-use Rattle.main_lane.proofs.Next.{JudgedCut, FirstWanted, stands-at}
+use Rattle.main_lane.specs.Tracks.{Tracks, IsNext, cell_of}
+use Rattle.main_lane.proofs.Holding.{holds_of}
+use Rattle.main_lane.proofs.Judged.{AreJudged, judged, all-judged}
+use Rattle.main_lane.proofs.Next.{JudgedCut, FirstWanted}
 use Rattle.main_lane.proofs.Calls.{MarksCut, marks-cut, holds-stand, tracks-first}
 use Rattle.main_lane.proofs.Paths.{shown-after}
 use Rattle.main_lane.proofs.Small.{and_first, and_second, not-true, equal-self, find-first, find-rest}

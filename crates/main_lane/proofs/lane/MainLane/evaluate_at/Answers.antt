@@ -1,11 +1,9 @@
-use Rattle.std.proofs.Common.{◌≡◌, ◌++◌, ◌∷◌, [], List, length, map, sym, ◌∙◌, ap, subst, refl, true, false}
+use Rattle.std.proofs.Common.{◌≡◌, ◌++◌, ◌∷◌, [], length, map, sym, ◌∙◌, ap, subst, refl, true, false}
 use Rattle.std.specs.Prelude.{slice_set}
 use Rattle.std.specs.Vec.{with_item, with_items}
 use Rattle.std.proofs.lemmas.List.{with_items_is}
 use Rattle.ex_model.specs.Along.{After, MeansInCell}
-use Rattle.notebook.specs.declared.parts.Parts.{Parts}
-use Rattle.notebook.specs.Flow.{Passed, passed}
-use Rattle.session_ops.specs.Work.{Work}
+use Rattle.notebook.specs.Flow.{passed}
 use Rattle.session_ops.specs.State.{source_bytes}
 use Rattle.main_lane.specs.declared.reads.Read.{Read}
 use Rattle.main_lane.specs.declared.marks.Last.{Last}
