@@ -1,16 +1,15 @@
 -- What a lane that tracks the work answers.
-use Rattle.std.proofs.Common.{◌≡◌, ℕ, ◌+◌, ◌<◌, ◌==◌, ◌||◌, ◌&&◌, not, Bool, true, false, List, [], ◌∷◌, ◌++◌, map, length, get_or, Option, Some, None, refl, sym, ap, subst, ◌∙◌, arith, append_assoc, inl, inr, length-append}
-use Rattle.std.specs.Prelude.{if◌then◌else◌, option_map, slice_get, MatchOption}
+use Rattle.std.proofs.Common.{◌≡◌, ℕ, ◌<◌, not, true, false, List, [], ◌∷◌, ◌++◌, map, length, get_or, Some, None, refl, sym, ap, subst, ◌∙◌, arith, append_assoc, length-append}
 use Rattle.std.specs.Option.{option_copied}
-use Rattle.std.specs.List.{list_any, AllByRecursion}
+use Rattle.std.specs.List.{list_any}
 use Rattle.std.proofs.Math.Seq.{get_or-append_seam}
 use Rattle.std.proofs.lemmas.List.{append-nil}
 use Rattle.notebook.specs.declared.parts.Cell.{Cell}
 use Rattle.notebook.specs.declared.parts.Parts.{Parts}
 use Rattle.notebook.specs.declared.states.Lane.TheVariants.{Main}
-use Rattle.notebook.specs.Flow.{passed, path, lane_cells}
+use Rattle.notebook.specs.Flow.{passed, lane_cells}
 use Rattle.notebook.specs.Validity.{status_by}
-use Rattle.session_ops.specs.Work.{Work, is_in, is_running, runs_cell, failed_ancestor, may_start, is_idle, last_finished}
+use Rattle.session_ops.specs.Work.{Work, is_running, runs_cell, failed_ancestor, may_start, is_idle}
 use Rattle.session_ops.proofs.MainFlow.{has_number, Stands, AllStand, main-stands, lane-out, path-none}
 use Rattle.main_lane.specs.declared.reads.Read.{Read}
 use Rattle.main_lane.specs.declared.marks.Mark.{Mark}
@@ -19,7 +18,8 @@ use Rattle.main_lane.specs.declared.lane.Row.{Row}
 use Rattle.main_lane.specs.declared.context.Context.{Context}
 use Rattle.main_lane.specs.Marks.{IsMark, AreMarks}
 use Rattle.main_lane.specs.Judging.{any_queued, failed_before, has_mark, IsMarkAt, IsWantedAt, IsPlaceOfNext, validity_of_mark, shown_of_last}
-use Rattle.main_lane.specs.Tracks.{Holds, Tracks, IsRow, IsRowBy, shown_in}
+use Rattle.main_lane.specs.Tracks.{Tracks, IsRow, IsRowBy}
+use Rattle.main_lane.proofs.Holding.{Holds, holds_of, hope_of}
 use Rattle.main_lane.proofs.Judged.{AreJudged, all-judged, failed-ancestor, idle, marked, mark-validity, mark-shown}
 use Rattle.main_lane.proofs.Next.{JudgedCut, judged-cut, FirstWanted, first-wanted, no-place, stands-at}
 
@@ -30,22 +30,22 @@ pub holds-judged : (n : Parts) (w : Work) (rs : List Read) (ms : List Mark) (c :
 holds-judged n w rs ms c h = all-judged n w rs [] (lane_cells n Main) ms (holds-stand n w rs ms c h) h.kept
 
 pub tracks-judged : (n : Parts) (w : Work) (l : MainLane) → Tracks n w l → AreJudged n w (lane_cells n Main) l.marks.items
-tracks-judged n w l t = holds-judged n w l.reads.items l.marks.items l.context t.holds
+tracks-judged n w l t = holds-judged n w l.reads.items l.marks.items l.context (holds_of n w l t)
 
 pub tracks-failed : (n : Parts) (w : Work) (l : MainLane) (cell : ℕ) → Tracks n w l → failed_before cell l.marks.items ≡ failed_ancestor n w cell
-tracks-failed n w l cell t = failed-ancestor n w cell l.marks.items t.holds.unbranched (tracks-judged n w l t)
+tracks-failed n w l cell t = failed-ancestor n w cell l.marks.items t.unbranched (tracks-judged n w l t)
 
 pub tracks-idle : (n : Parts) (w : Work) (l : MainLane) → Tracks n w l → not (any_queued l.marks.items) ≡ is_idle w
-tracks-idle n w l t = idle n w l.marks.items t.holds.rests t.holds.unbranched t.holds.lane (tracks-judged n w l t)
+tracks-idle n w l t = idle n w l.marks.items t.rests t.unbranched (holds_of n w l t).lane (tracks-judged n w l t)
 
 pub tracks-none : (n : Parts) (w : Work) (l : MainLane) → Tracks n w l → IsPlaceOfNext l.marks.items None → may_start n w Main ≡ None
-tracks-none n w l t p = no-place n w l.marks.items t.holds.rests t.holds.unbranched t.holds.lane (tracks-judged n w l t) p
+tracks-none n w l t p = no-place n w l.marks.items t.rests t.unbranched (holds_of n w l t).lane (tracks-judged n w l t) p
 
 -- the first wanted mark of a lane where some cell is queued
 pub tracks-first : (n : Parts) (w : Work) (l : MainLane) (at : ℕ) (p : IsWantedAt l.marks.items at) (t : JudgedCut n w (lane_cells n Main) p.front p.mark p.back) → Tracks n w l → any_queued l.marks.items ≡ true → FirstWanted n w t.before t.cell
 tracks-first n w l at p t tr some =
-    first-wanted n w w.queued p.front p.mark p.back t refl tr.holds.rests tr.holds.lane tr.hopeful (ap any_queued (sym p.parts) ∙ some)
-    (holds-stand n w l.reads.items l.marks.items l.context tr.holds) (subst (AreJudged n w (lane_cells n Main)) p.parts (tracks-judged n w l tr)) p.done p.wanted
+    first-wanted n w w.queued p.front p.mark p.back t refl tr.rests (holds_of n w l tr).lane (hope_of n w l tr) (ap any_queued (sym p.parts) ∙ some)
+    (holds-stand n w l.reads.items l.marks.items l.context (holds_of n w l tr)) (subst (AreJudged n w (lane_cells n Main)) p.parts (tracks-judged n w l tr)) p.done p.wanted
 
 pub tracks-next : (n : Parts) (w : Work) (l : MainLane) (at : ℕ) (m : Mark) → Tracks n w l → IsPlaceOfNext l.marks.items (Some at) → m ≡ get_or l.marks.items at m → may_start n w Main ≡ Some m.cell
 tracks-next n w l at m tr (some, p) is =
@@ -134,12 +134,12 @@ pub tracks-row : (n : Parts) (w : Work) (l : MainLane) (cell at : ℕ) (m : Mark
 tracks-row n w l cell at m r t p is status validity shown =
     let here : m ≡ p.mark = mark-here l.marks.items cell at m p is in
     let cut : MarksCut w l.reads.items [] (lane_cells n Main) p.front p.mark p.back =
-    marks-cut w l.reads.items [] (lane_cells n Main) p.front p.mark p.back (subst (AreMarks w l.reads.items [] (lane_cells n Main)) p.parts t.holds.kept) in
-    let place : Stands n cut.before cut.cell = stands-at n [] cut.before cut.cell cut.after (subst (AllStand n []) cut.parts (holds-stand n w l.reads.items l.marks.items l.context t.holds)) in
-    row-at n w l.reads.items cut.before cut.cell p.mark cell r t.holds.rests place cut.here (sym cut.here.cell ∙ p.number)
+    marks-cut w l.reads.items [] (lane_cells n Main) p.front p.mark p.back (subst (AreMarks w l.reads.items [] (lane_cells n Main)) p.parts t.marks) in
+    let place : Stands n cut.before cut.cell = stands-at n [] cut.before cut.cell cut.after (subst (AllStand n []) cut.parts (holds-stand n w l.reads.items l.marks.items l.context (holds_of n w l t))) in
+    row-at n w l.reads.items cut.before cut.cell p.mark cell r t.rests place cut.here (sym cut.here.cell ∙ p.number)
     (status ∙ ap (λ (x : Mark). status_by false x.queued) here) (validity ∙ ap validity_of_mark here) (shown ∙ ap (λ (x : Mark). shown_of_last x.last) here)
 
 pub tracks-no_row : (n : Parts) (w : Work) (l : MainLane) (cell : ℕ) → Tracks n w l → has_mark cell l.marks.items ≡ false → IsRow n w cell None
 tracks-no_row n w l cell t none =
     let out : has_number cell (lane_cells n Main) ≡ false = sym (marked n w cell (lane_cells n Main) l.marks.items (tracks-judged n w l t)) ∙ none in
-    subst (λ o. IsRowBy w cell o None) (sym (path-none n cell (lane-out n t.holds.unbranched cell out))) tt
+    subst (λ o. IsRowBy w cell o None) (sym (path-none n cell (lane-out n t.unbranched cell out))) tt

@@ -1,9 +1,8 @@
 -- After one cell has another source.
-use Rattle.std.proofs.Common.{◌≡◌, ℕ, ◌+◌, ◌<◌, ◌==◌, ◌||◌, ◌&&◌, not, Bool, true, false, cond, List, [], ◌∷◌, ◌++◌, map, length, Option, Some, None, refl, sym, ap, subst, ◌∙◌, arith, append_assoc, eqb-true, eq-eqb, zero, suc}
+use Rattle.std.proofs.Common.{◌≡◌, ℕ, ◌==◌, ◌||◌, ◌&&◌, true, false, cond, List, [], ◌∷◌, ◌++◌, map, Option, Some, None, refl, sym, ap, subst, ◌∙◌, eqb-true, eq-eqb, zero, suc}
 use Rattle.std.specs.Prelude.{if◌then◌else◌, slice_get, nat_eq, option_map, filter}
-use Rattle.std.specs.List.{flat_map, list_any, AllByRecursion}
+use Rattle.std.specs.List.{flat_map, AllByRecursion}
 use Rattle.std.specs.Cmp.Lexicographic.{pointwise}
-use Rattle.std.proofs.lemmas.Bool.Decides.{nat_tests}
 use Rattle.std.proofs.lemmas.List.{length-map}
 use Rattle.std.proofs.lemmas.Option.{slice_get-map}
 use Rattle.notebook.specs.declared.parts.Cell.{Cell}
@@ -12,7 +11,7 @@ use Rattle.notebook.specs.declared.parts.Parts.{Parts}
 use Rattle.notebook.specs.declared.states.Lane.TheVariants.{Main}
 use Rattle.notebook.specs.Book.{cells, found, resourced, resourced_cell, resourced_cells, resourced_sections, source_for, with_source}
 use Rattle.notebook.specs.Rules.{cell_number, AreDistinct}
-use Rattle.notebook.specs.Flow.{Passed, passed, lane_of, lane_cells, section_code, is_code, is_cell, HasNoParent, IsUnbranched}
+use Rattle.notebook.specs.Flow.{Passed, passed, lane_cells, section_code, is_code, is_cell, HasNoParent, IsUnbranched}
 use Rattle.notebook.specs.Validity.{same_passed, same_path}
 use Rattle.notebook.proofs.Sources.{resourced_cells-append, found-resourced, live_numbers-resourced, source_for-other, with_source-none}
 use Rattle.session_ops.specs.Work.{Work, Finished, last_finished, swept}
@@ -22,11 +21,11 @@ use Rattle.main_lane.specs.declared.marks.Last.{Last}
 use Rattle.main_lane.specs.declared.marks.Mark.{Mark}
 use Rattle.main_lane.specs.declared.context.Context.{Context}
 use Rattle.main_lane.specs.declared.lane.MainLane.{MainLane}
-use Rattle.main_lane.specs.Reads.{passed_read, has_source, IsTold, AreTold, IsReadAt, ArePlaces}
-use Rattle.main_lane.specs.Marks.{passed_number, IsLast, IsLastOf, IsMark, AreMarks}
-use Rattle.main_lane.specs.Judging.{reread, reread_all, is_same_read, is_same_at, are_same, refreshed_last, refreshed, refreshed_all, swept_marks}
-use Rattle.main_lane.specs.Contexts.{IsContext}
-use Rattle.main_lane.specs.Tracks.{Holds, Tracks, IsOfLane, IsHopeful}
+use Rattle.main_lane.specs.Reads.{passed_read, has_source, IsTold, AreTold, ArePlaces}
+use Rattle.main_lane.specs.Marks.{passed_number, IsLastOf, IsMark, AreMarks}
+use Rattle.main_lane.specs.Judging.{reread, reread_all, is_same_read, are_same, refreshed_last, refreshed, refreshed_all, swept_marks}
+use Rattle.main_lane.specs.Tracks.{Tracks}
+use Rattle.main_lane.proofs.Holding.{Holds, IsOfLane, holds_of, hope_of, tracks_from}
 use Rattle.main_lane.proofs.Sweeping.{holds-swept, swept-hopeful, holds-unswept, unswept}
 use Rattle.main_lane.proofs.Queueing.{all-more}
 
@@ -207,14 +206,12 @@ pub tracks-edited : (n book : Parts) (cell : ℕ) (t : List ℕ) (d : Cell) (w :
 tracks-edited n book cell t d w old new tr same here reads marks context =
     let there : found cell (cells (with_source cell t n)) ≡ Some d = ap (λ b. found cell (cells b)) (sym same) ∙ here in
     let held : Holds (with_source cell t n) w (reread_all cell d.source old.reads.items) (refreshed_all (reread_all cell d.source old.reads.items) old.marks.items) old.context =
-    holds-edited n cell t d w old.reads.items old.marks.items old.context there tr.holds in
+    holds-edited n cell t d w old.reads.items old.marks.items old.context there (holds_of n w old tr) in
     let swept_held : Holds (with_source cell t n) (swept (with_source cell t n) w) (reread_all cell d.source old.reads.items) (swept_marks false (refreshed_all (reread_all cell d.source old.reads.items) old.marks.items)) old.context =
     holds-swept (with_source cell t n) w (reread_all cell d.source old.reads.items) (refreshed_all (reread_all cell d.source old.reads.items) old.marks.items) old.context held in
     let as_new : new.marks.items ≡ swept_marks false (refreshed_all (reread_all cell d.source old.reads.items) old.marks.items) = marks ∙ ap (λ rs. swept_marks false (refreshed_all rs old.marks.items)) reads in
-    let tracks : Tracks (with_source cell t n) (swept (with_source cell t n) w) new = record {
-      holds = rw (reads, as_new, context) swept_held;
-      hopeful = swept-hopeful (with_source cell t n) w;
-    } in
+    let tracks : Tracks (with_source cell t n) (swept (with_source cell t n) w) new =
+    tracks_from (with_source cell t n) (swept (with_source cell t n) w) new (rw (reads, as_new, context) swept_held) (swept-hopeful (with_source cell t n) w) in
     subst (λ (b : Parts). Tracks b (swept b w) new) (sym same) tracks
 
 -- where no flag changed, the marks are as they were
@@ -238,8 +235,8 @@ pub tracks-unchanged : (n book : Parts) (cell : ℕ) (t : List ℕ) (d : Cell) (
     → new.reads.items ≡ reread_all cell d.source old.reads.items → new.reads.items ≡ old.reads.items → new.marks.items ≡ old.marks.items → new.context ≡ old.context → Tracks book (swept book w) new
 tracks-unchanged n book cell t d w old new tr same here reads own marks context =
     let still : refreshed_all old.reads.items old.marks.items ≡ old.marks.items =
-    marks-own n w old.reads.items [] (lane_cells n Main) old.marks.items tr.holds.told tt (main-found n tr.holds.unbranched tr.holds.distinct) tr.holds.kept in
-    let clean : swept_marks false old.marks.items ≡ old.marks.items = holds-unswept n w old.reads.items old.marks.items old.context tr.holds tr.hopeful in
+    marks-own n w old.reads.items [] (lane_cells n Main) old.marks.items tr.told tt (main-found n tr.unbranched tr.distinct) tr.marks in
+    let clean : swept_marks false old.marks.items ≡ old.marks.items = holds-unswept n w old.reads.items old.marks.items old.context (holds_of n w old tr) (hope_of n w old tr) in
     tracks-edited n book cell t d w old new tr same here reads
     (marks ∙ sym (ap (λ rs. swept_marks false (refreshed_all rs old.marks.items)) own ∙ (ap (swept_marks false) still ∙ clean))) context
 
@@ -252,4 +249,4 @@ pub tracks-nowhere : (n book : Parts) (cell : ℕ) (t : List ℕ) (w : Work) (l 
 tracks-nowhere n book cell t w l tr same none =
     let gone : option_map (resourced_cell (source_for cell t)) (found cell (cells n)) ≡ None = sym (found-resourced (source_for cell t) cell n) ∙ (ap (λ b. found cell (cells b)) (sym same) ∙ none) in
     let own : book ≡ n = same ∙ with_source-none cell t n (none-before (resourced_cell (source_for cell t)) (found cell (cells n)) gone) in
-    subst (λ (b : Parts). Tracks b (swept b w) l) (sym own) (subst (λ v. Tracks n v l) (sym (unswept n w tr.hopeful)) tr)
+    subst (λ (b : Parts). Tracks b (swept b w) l) (sym own) (subst (λ v. Tracks n v l) (sym (unswept n w (hope_of n w l tr))) tr)

@@ -1,12 +1,10 @@
 -- After an evaluation that began and was answered.
-use Rattle.std.proofs.Common.{◌≡◌, ℕ, ◌+◌, ◌<◌, ◌==◌, ◌||◌, ◌&&◌, not, Bool, true, false, cond, List, [], ◌∷◌, ◌++◌, map, length, Option, Some, None, refl, sym, ap, subst, ◌∙◌, arith, append_assoc, length-append, zero, suc}
-use Rattle.std.specs.Prelude.{if◌then◌else◌, option_map, slice_get, slice_set, find, filter, unwrap_or, nat_eq}
+use Rattle.std.proofs.Common.{◌≡◌, ℕ, ◌+◌, ◌==◌, ◌&&◌, not, true, false, cond, List, [], ◌∷◌, ◌++◌, map, length, Option, Some, None, refl, sym, ap, subst, ◌∙◌, length-append, zero, suc}
+use Rattle.std.specs.Prelude.{option_map, slice_get, slice_set, find, unwrap_or, nat_eq}
 use Rattle.std.specs.Cmp.Lexicographic.{pointwise}
 use Rattle.std.specs.List.{AllByRecursion}
-use Rattle.std.proofs.lemmas.Bool.Decides.{nat_tests}
-use Rattle.std.proofs.lemmas.List.{append-nil, map-append}
+use Rattle.std.proofs.lemmas.List.{map-append}
 use Rattle.std.proofs.Math.Seq.{set-append_seam}
-use Rattle.ex_model.specs.declared.bindings.Binding.{Binding}
 use Rattle.ex_model.specs.declared.ran.Ran.{Ran}
 use Rattle.ex_model.specs.declared.ran.Shown.{Shown}
 use Rattle.ex_model.specs.declared.ran.Outcome.{Outcome}
@@ -18,10 +16,9 @@ use Rattle.notebook.specs.declared.parts.Parts.{Parts}
 use Rattle.notebook.specs.declared.states.Lane.TheVariants.{Main}
 use Rattle.notebook.specs.Book.{cells, found}
 use Rattle.notebook.specs.Flow.{Passed, passed, path, lane_cells}
-use Rattle.notebook.specs.Validity.{same_path}
-use Rattle.session_ops.specs.Work.{Work, Running, Finished, is_in, is_other, without_number, is_of_cell, last_finished, begun, running_eval, is_eval, is_other_eval, stored, swept}
+use Rattle.session_ops.specs.Work.{Work, Running, Finished, is_in, is_other, without_number, is_of_cell, last_finished, begun, running_eval, stored, swept}
 use Rattle.session_ops.specs.State.{source_bytes, ShowsAlong}
-use Rattle.session_ops.proofs.MainFlow.{AreApart, main-apart}
+use Rattle.session_ops.proofs.MainFlow.{main-apart}
 use Rattle.main_lane.specs.declared.reads.Read.{Read}
 use Rattle.main_lane.specs.declared.marks.Last.{Last}
 use Rattle.main_lane.specs.declared.marks.Mark.{Mark}
@@ -29,12 +26,13 @@ use Rattle.main_lane.specs.declared.context.Context.{Context}
 use Rattle.main_lane.specs.declared.lane.MainLane.{MainLane}
 use Rattle.main_lane.specs.declared.lane.Evaluated.{Evaluated}
 use Rattle.main_lane.specs.Reads.{passed_read, has_source, IsTold, AreTold, IsReadAt, ArePlaces}
-use Rattle.main_lane.specs.Marks.{passed_number, IsLast, IsLastOf, IsMark, AreMarks}
-use Rattle.main_lane.specs.Contexts.{HasAfter, IsContext, HasAdvanced}
+use Rattle.main_lane.specs.Marks.{IsLastOf, IsMark, AreMarks}
+use Rattle.main_lane.specs.Contexts.{IsContext, HasAdvanced}
 use Rattle.main_lane.specs.Judging.{stored_mark, swept_marks, path_before}
-use Rattle.main_lane.specs.Tracks.{Holds, Tracks, IsOfLane, IsHopeful, once_begun, once_stored, HasEvaluated}
+use Rattle.main_lane.specs.Tracks.{Tracks, once_begun, once_stored, HasEvaluated}
+use Rattle.main_lane.proofs.Holding.{Holds, IsOfLane, IsHopeful, holds_of, hope_of, tracks_from}
 use Rattle.main_lane.proofs.Sweeping.{is_in-filter, unswept, all-filter, holds-swept, swept-hopeful}
-use Rattle.main_lane.proofs.Queueing.{SameFor, SameBut, marks-replaced, all-more}
+use Rattle.main_lane.proofs.Queueing.{SameBut, marks-replaced, all-more}
 use Rattle.main_lane.proofs.Calls.{MarksCut}
 use Rattle.main_lane.proofs.Ready.{Ready, text-self, path-self}
 use Rattle.main_lane.proofs.Small.{and-true, and-false, equal-self, not-equal}
@@ -169,13 +167,13 @@ holds-evaluated n w l at c t eval shown r x k tr count number source same places
       later = marks-more w l.reads.items r (t.before ++ c ∷ []) t.after t.back t.later;
     } in
     record {
-      unbranched = tr.holds.unbranched;
-      distinct = tr.holds.distinct;
+      unbranched = tr.unbranched;
+      distinct = tr.distinct;
       rests = refl;
-      lane = all-filter (IsOfLane n) (is_other c.id) w.queued tr.holds.lane;
+      lane = all-filter (IsOfLane n) (is_other c.id) w.queued (holds_of n w l tr).lane;
       started = count;
-      told = told-more n l.reads.items r c tr.holds.told t.stands.live number source same;
-      kept = marks-replaced n w u rs t.front t.mark t.back (stored_mark k t.mark) cut (main-apart n tr.holds.unbranched tr.holds.distinct) (same-but w eval c.id p shown) (mark-stored w rs eval p shown c t.mark k t.here.cell places told current right);
+      told = told-more n l.reads.items r c tr.told t.stands.live number source same;
+      kept = marks-replaced n w u rs t.front t.mark t.back (stored_mark k t.mark) cut (main-apart n tr.unbranched tr.distinct) (same-but w eval c.id p shown) (mark-stored w rs eval p shown c t.mark k t.here.cell places told current right);
       after = context;
     }
 
@@ -191,7 +189,7 @@ pub evaluated-lane : (n : Parts) (w : Work) (old new : MainLane) (at : ℕ) (c :
     → k.path.items ≡ path_before old.marks.items at ++ length old.reads.items ∷ [] → k.shown ≡ ran.shown → k.current ≡ true
     → HasAdvanced ran.shown.outcome k.path.items ran.made mid new.context
     → m ≡ t.mark → new.marks.items ≡ swept_marks false (slice_set old.marks.items at (stored_mark k m))
-    → HasEvaluated n w new e
+    → HasEvaluated n w e new
 evaluated-lane n w old new at c t e mid ran r k m tr count cell shown a held means reads number source same kept told current advanced mark marks =
     let p : List Passed = map passed (t.before ++ c ∷ []) in
     let rs : List Read = old.reads.items ++ r ∷ [] in
@@ -212,16 +210,14 @@ evaluated-lane n w old new at c t e mid ran r k m tr count cell shown a held mea
     holds-swept n (after_work e.eval c.id p ran.shown w) rs (t.front ++ stored_mark k t.mark ∷ t.back) new.context holds in
     let written : new.marks.items ≡ swept_marks false (t.front ++ stored_mark k t.mark ∷ t.back) =
     marks ∙ (ap (λ z. swept_marks false (slice_set old.marks.items at (stored_mark k z))) mark ∙ ap (swept_marks false) (set-ready old.marks.items at t.front t.mark t.back (stored_mark k t.mark) t.parts t.place)) in
-    let tracks : Tracks n (swept n (after_work e.eval c.id p ran.shown w)) new = record {
-      holds = rw (reads, written) swept_holds;
-      hopeful = swept-hopeful n (after_work e.eval c.id p ran.shown w);
-    } in
+    let tracks : Tracks n (swept n (after_work e.eval c.id p ran.shown w)) new =
+    tracks_from n (swept n (after_work e.eval c.id p ran.shown w)) new (rw (reads, written) swept_holds) (swept-hopeful n (after_work e.eval c.id p ran.shown w)) in
     let at_path : path n e.cell ≡ Some p = ap (path n) cell ∙ t.stands.path in
     let same_work : once_stored n w e ≡ swept n (after_work e.eval c.id p ran.shown w) =
-    stored-so n w e p tr.holds.rests at_path tr.hopeful ∙ (ap (λ j. swept n (after_work e.eval j p e.shown w)) cell ∙ ap (λ s. swept n (after_work e.eval c.id p s w)) shown) in
+    stored-so n w e p tr.rests at_path (hope_of n w old tr) ∙ (ap (λ j. swept n (after_work e.eval j p e.shown w)) cell ∙ ap (λ s. swept n (after_work e.eval c.id p s w)) shown) in
     record {
       may = t.starts ∙ ap (λ j. Some j) (sym cell);
-      eval = counted ∙ (length-append old.reads.items (r ∷ []) ∙ ap (λ j. j + 1) (sym tr.holds.started));
+      eval = counted ∙ (length-append old.reads.items (r ∷ []) ∙ ap (λ j. j + 1) (sym tr.started));
       along = (p, (at_path, subst (ShowsAlong p) (sym shown) right));
       tracks = subst (λ v. Tracks n v new) (sym same_work) tracks;
     }

@@ -1,26 +1,25 @@
 -- What the marks of a lane tell of its cells.
-use Rattle.std.proofs.Common.{◌≡◌, ℕ, ◌+◌, ◌==◌, ◌||◌, ◌&&◌, not, Bool, true, false, cond, List, [], ◌∷◌, ◌++◌, map, length, Option, Some, None, refl, sym, ap, subst, ◌∙◌, arith, append_assoc, eqb-true}
-use Rattle.std.specs.Prelude.{if◌then◌else◌, option_map, option_and_then, filter, find, is_some}
-use Rattle.std.specs.List.{list_any, list_all, AllByRecursion}
+use Rattle.std.proofs.Common.{◌≡◌, ℕ, ◌==◌, ◌||◌, ◌&&◌, not, Bool, true, false, List, [], ◌∷◌, ◌++◌, map, length, Option, Some, None, refl, sym, ap, ◌∙◌, arith, eqb-true}
+use Rattle.std.specs.Prelude.{if◌then◌else◌, option_map, find}
+use Rattle.std.specs.List.{AllByRecursion}
 use Rattle.std.proofs.lemmas.Bool.Decides.{nat_tests}
-use Rattle.std.proofs.lemmas.List.{append-nil, map-append}
-use Rattle.std.proofs.lemmas.List.Folds.{list_any-append, find-append}
 use Rattle.ex_model.specs.declared.ran.Shown.{Shown}
 use Rattle.notebook.specs.declared.parts.Cell.{Cell}
 use Rattle.notebook.specs.declared.parts.Parts.{Parts}
 use Rattle.notebook.specs.declared.states.Lane.TheVariants.{Main}
 use Rattle.notebook.specs.declared.states.Validity.TheVariants.{Evaluated, Stale, Aborted}
 use Rattle.notebook.specs.Rules.{cell_number}
-use Rattle.notebook.specs.Flow.{Passed, passed, path, flow, flow_in, lane_of, lane_cells, is_cell, up_to, IsUnbranched}
-use Rattle.notebook.specs.Validity.{validity_by, validity_by_path, is_evaluated_so, same_path}
-use Rattle.session_ops.specs.Work.{Work, Running, Finished, is_fault, is_in, before, earlier, last_finished, path_read, has_path, is_evaluated_on, is_evaluated, shows_fault, has_failed, failed_ancestor, stands_in, is_due, is_running, runs_in, runs_cell, is_settled, settled_before, own_cells, may_start, is_idle}
-use Rattle.session_ops.proofs.MainFlow.{has_number, or_first, or_second, or_true, Stands, AllStand, main-stands, main-of, in-lane, lane-out, earlier-of, earlier-none, flow-of, up_to-past, before-past, is_cell-own}
+use Rattle.notebook.specs.Flow.{Passed, passed, lane_cells, is_cell, IsUnbranched}
+use Rattle.notebook.specs.Validity.{validity_by, validity_by_path, is_evaluated_so}
+use Rattle.session_ops.specs.Work.{Work, Finished, is_fault, is_in, before, last_finished, path_read, has_path, is_evaluated_on, is_evaluated, shows_fault, has_failed, failed_ancestor, is_idle}
+use Rattle.session_ops.proofs.MainFlow.{has_number, or_true, Stands, AllStand, main-of, in-lane, lane-out, earlier-of, earlier-none}
 use Rattle.main_lane.specs.declared.reads.Read.{Read}
 use Rattle.main_lane.specs.declared.marks.Last.{Last}
 use Rattle.main_lane.specs.declared.marks.Mark.{Mark}
-use Rattle.main_lane.specs.Marks.{IsLast, IsLastOf, IsMark, AreMarks}
-use Rattle.main_lane.specs.Judging.{is_current, ends_in_fault, is_evaluated_mark, is_failed_mark, is_wanted_mark, validity_of_last, validity_of_mark, shown_of_last, any_queued, has_mark, failed_until, failed_before, IsDone, IsWantedAt, IsPlaceOfNext}
-use Rattle.main_lane.specs.Tracks.{Holds, IsOfLane, IsHopeful, shown_in}
+use Rattle.main_lane.specs.Marks.{IsLastOf, IsMark, AreMarks}
+use Rattle.main_lane.specs.Judging.{is_current, ends_in_fault, is_evaluated_mark, is_failed_mark, validity_of_last, validity_of_mark, shown_of_last, any_queued, has_mark, failed_until, failed_before}
+use Rattle.main_lane.specs.Tracks.{shown_in}
+use Rattle.main_lane.proofs.Holding.{IsOfLane}
 use Rattle.main_lane.proofs.Small.{and-true}
 
 -- what a kept evaluation tells

@@ -1,4 +1,5 @@
 pub mod Small
+pub mod Holding
 pub mod Writing
 pub mod Places
 pub mod Judged

@@ -1,6 +1,6 @@
 -- The first wanted cell is the one that may start.
-use Rattle.std.proofs.Common.{◌≡◌, ℕ, ◌+◌, ◌==◌, ◌||◌, ◌&&◌, not, Bool, true, false, cond, List, [], ◌∷◌, ◌++◌, map, length, Option, Some, None, refl, sym, ap, subst, ◌∙◌, arith, append_assoc, eqb-true, inl, inr}
-use Rattle.std.specs.Prelude.{if◌then◌else◌, option_map, option_and_then, unwrap_or, find}
+use Rattle.std.proofs.Common.{◌≡◌, ℕ, ◌==◌, ◌||◌, ◌&&◌, not, Bool, true, false, cond, List, [], ◌∷◌, ◌++◌, map, Option, Some, None, refl, sym, ap, subst, ◌∙◌, append_assoc, eqb-true, inl, inr}
+use Rattle.std.specs.Prelude.{if◌then◌else◌, option_and_then, unwrap_or, find}
 use Rattle.std.specs.List.{list_any, list_all, AllByRecursion}
 use Rattle.std.proofs.lemmas.List.{append-nil, map-append}
 use Rattle.std.proofs.lemmas.List.Folds.{list_any-append}
@@ -8,12 +8,12 @@ use Rattle.notebook.specs.declared.parts.Cell.{Cell}
 use Rattle.notebook.specs.declared.parts.Parts.{Parts}
 use Rattle.notebook.specs.declared.states.Lane.TheVariants.{Main}
 use Rattle.notebook.specs.Rules.{cell_number}
-use Rattle.notebook.specs.Flow.{flow, lane_of, lane_cells, is_cell, up_to, IsUnbranched}
-use Rattle.session_ops.specs.Work.{Work, Running, is_in, before, earlier, last_finished, is_evaluated, shows_fault, has_failed, failed_ancestor, stands_in, is_due, is_running, runs_in, runs_cell, is_settled, settled_before, own_cells, may_start}
+use Rattle.notebook.specs.Flow.{lane_of, lane_cells, is_cell, up_to, IsUnbranched}
+use Rattle.session_ops.specs.Work.{Work, is_in, before, earlier, last_finished, is_evaluated, shows_fault, has_failed, failed_ancestor, stands_in, is_due, is_running, runs_in, runs_cell, is_settled, settled_before, may_start}
 use Rattle.session_ops.proofs.MainFlow.{has_number, or_first, or_second, or_true, Stands, AllStand, in-lane, flow-of, earlier-of, up_to-past, before-past, is_cell-own}
 use Rattle.main_lane.specs.declared.marks.Mark.{Mark}
-use Rattle.main_lane.specs.Judging.{is_evaluated_mark, is_failed_mark, is_wanted_mark, any_queued, IsDone, IsWantedAt, IsPlaceOfNext}
-use Rattle.main_lane.specs.Tracks.{IsOfLane, IsHopeful}
+use Rattle.main_lane.specs.Judging.{is_evaluated_mark, is_wanted_mark, any_queued, IsDone, IsPlaceOfNext}
+use Rattle.main_lane.proofs.Holding.{IsOfLane, IsHopeful}
 use Rattle.main_lane.proofs.Judged.{Judged, AreJudged, unqueued, queued-marked, is_in-first}
 use Rattle.main_lane.proofs.Small.{and-true, and-false, not-true, find-first, find-rest}
 
@@ -52,7 +52,6 @@ nothing-starts n w rests e =
     rests-start n w rests ∙ ap (option_and_then (settled_before n w)) (find-none (is_due n w) (map cell_number (lane_cells n Main)) (λ x. none-due n w x e))
 
 -- a done cell is neither queued nor due
-
 done-queued : (n : Parts) (w : Work) (c : Cell) (m : Mark) → Judged n w c m → IsDone m → is_in c.id w.queued ≡ false
 done-queued n w c m j d = sym j.queued ∙ or_first m.queued (not (is_evaluated_mark m)) d
 

@@ -1,8 +1,7 @@
 -- One mark changes with the work on its cell.
-use Rattle.std.proofs.Common.{◌≡◌, ℕ, ◌+◌, ◌<◌, ◌==◌, ◌||◌, ◌&&◌, not, Bool, true, false, cond, List, [], ◌∷◌, ◌++◌, map, length, set, get_or, Option, Some, None, refl, sym, ap, subst, ◌∙◌, arith, append_assoc, eqb-true}
-use Rattle.std.specs.Prelude.{if◌then◌else◌, slice_set, find, Contains}
+use Rattle.std.proofs.Common.{◌≡◌, ℕ, ◌==◌, ◌||◌, true, false, List, [], ◌∷◌, ◌++◌, map, length, get_or, Some, None, refl, sym, ap, subst, ◌∙◌}
+use Rattle.std.specs.Prelude.{if◌then◌else◌, slice_set, Contains}
 use Rattle.std.specs.List.{AllByRecursion}
-use Rattle.std.proofs.lemmas.Bool.Decides.{nat_tests}
 use Rattle.std.proofs.lemmas.List.{map-append}
 use Rattle.std.proofs.lemmas.List.Elements.{Contains-append_left}
 use Rattle.std.proofs.Math.Seq.{set-append_seam}
@@ -12,8 +11,8 @@ use Rattle.notebook.specs.declared.parts.Parts.{Parts}
 use Rattle.notebook.specs.declared.states.Lane.TheVariants.{Main}
 use Rattle.notebook.specs.Book.{cells, section_cells}
 use Rattle.notebook.specs.Rules.{cell_number, AreDistinct, IsNotebook}
-use Rattle.notebook.specs.Flow.{IsUnbranched, Passed, passed, lane_of, lane_cells, is_cell}
-use Rattle.session_ops.specs.Work.{Work, Finished, no_work, is_in, with_number, last_finished, failed_ancestor, swept}
+use Rattle.notebook.specs.Flow.{IsUnbranched, passed, lane_of, lane_cells, is_cell}
+use Rattle.session_ops.specs.Work.{Work, no_work, is_in, with_number, last_finished, failed_ancestor, swept}
 use Rattle.session_ops.proofs.MainFlow.{has_number, or_first, or_second, AreApart, main-apart, apart-front, apart-back, in-lane, main-line}
 use Rattle.main_lane.specs.declared.reads.Read.{Read}
 use Rattle.main_lane.specs.declared.marks.Mark.{Mark}
@@ -23,7 +22,8 @@ use Rattle.main_lane.specs.Marks.{IsLastOf, IsMark, AreMarks}
 use Rattle.main_lane.specs.Judging.{IsMarkAt, has_mark, new_marks}
 use Rattle.main_lane.specs.Lines.{main_line}
 use Rattle.main_lane.specs.Reads.{ArePlaces}
-use Rattle.main_lane.specs.Tracks.{Holds, Tracks, IsOfLane, IsHopeful}
+use Rattle.main_lane.specs.Tracks.{Tracks}
+use Rattle.main_lane.proofs.Holding.{Holds, IsOfLane, IsHopeful, holds_of, hope_of, tracks_from}
 use Rattle.main_lane.proofs.Judged.{marked}
 use Rattle.main_lane.proofs.Calls.{MarksCut, marks-cut, marks-join, mark-here, tracks-judged}
 use Rattle.main_lane.proofs.Sweeping.{is_in-append, unswept}
@@ -64,7 +64,6 @@ marks-replaced n w v rs front m back y cut apart same here =
     (marks-other cut.cell.id w v rs (cut.before ++ cut.cell ∷ []) cut.after back same (apart-back cut.before cut.after cut.cell a) cut.later))
 
 -- a number put into a set
-
 with-other : (cell k : ℕ) (qs : List ℕ) → (k == cell) ≡ false → is_in k (with_number cell qs) ≡ is_in k qs
 with-other cell k qs other =
     elim (is_in cell qs)
@@ -121,21 +120,18 @@ pub tracks-queued : (n : Parts) (w : Work) (old new : MainLane) (cell at : ℕ) 
     → new.reads.items ≡ old.reads.items → new.marks.items ≡ slice_set old.marks.items at (record m { queued = true }) → new.context ≡ old.context → Tracks n (swept n (with_queued cell w)) new
 tracks-queued n w old new cell at m t l hope p is reads marks context =
     let here : m ≡ p.mark = mark-here old.marks.items cell at m p is in
-    let hopeful : AllByRecursion (IsHopeful n (with_queued cell w)) (with_number cell w.queued) = all-with (IsHopeful n w) cell w.queued t.hopeful hope in
-    let old_holds : Holds n w old.reads.items (p.front ++ p.mark ∷ p.back) old.context = subst (λ ms. Holds n w old.reads.items ms old.context) p.parts t.holds in
+    let hopeful : AllByRecursion (IsHopeful n (with_queued cell w)) (with_number cell w.queued) = all-with (IsHopeful n w) cell w.queued (hope_of n w old t) hope in
+    let old_holds : Holds n w old.reads.items (p.front ++ p.mark ∷ p.back) old.context = subst (λ ms. Holds n w old.reads.items ms old.context) p.parts (holds_of n w old t) in
     let held : Holds n (with_queued cell w) old.reads.items (p.front ++ record p.mark { queued = true } ∷ p.back) old.context =
     holds-queued n w old.reads.items p.front p.mark p.back old.context cell old_holds l p.number in
     let written : new.marks.items ≡ p.front ++ record p.mark { queued = true } ∷ p.back =
     marks ∙ (ap (λ (x : Mark). slice_set old.marks.items at (record x { queued = true })) here ∙ set-here old.marks.items cell at p (record p.mark { queued = true })) in
-    let tracks : Tracks n (with_queued cell w) new = record {
-      holds = rw (reads, written, context) held;
-      hopeful = hopeful;
-    } in
+    let tracks : Tracks n (with_queued cell w) new = tracks_from n (with_queued cell w) new (rw (reads, written, context) held) hopeful in
     subst (λ v. Tracks n v new) (sym (unswept n (with_queued cell w) hopeful)) tracks
 
 -- a cell of the lane has a mark
 pub tracks-marked : (n : Parts) (w : Work) (l : MainLane) (cell : ℕ) → Tracks n w l → lane_of n cell ≡ Some Main → has_mark cell l.marks.items ≡ true
-tracks-marked n w l cell t e = marked n w cell (lane_cells n Main) l.marks.items (tracks-judged n w l t) ∙ in-lane n t.holds.unbranched cell e
+tracks-marked n w l cell t e = marked n w cell (lane_cells n Main) l.marks.items (tracks-judged n w l t) ∙ in-lane n t.unbranched cell e
 
 -- before any call
 marks-new : (rs : List Read) (front cs : List Cell) → AreMarks no_work rs front cs (new_marks cs)
@@ -154,18 +150,15 @@ distinct-live n is =
     distinct-left (cells n) n.bin numbers
 
 pub tracks-new : (n : Parts) (l : MainLane) → IsNotebook n → IsUnbranched n → l.reads.items ≡ [] → l.marks.items ≡ new_marks (main_line n) → l.context.path.items ≡ [] → l.context.bindings ≡ [] → Tracks n no_work l
-tracks-new n l rules h reads marks path bindings = record {
-  holds = record {
-    unbranched = h;
-    distinct = distinct-live n rules;
-    rests = refl;
-    lane = tt;
-    started = sym (ap length reads);
-    told = rw reads tt;
-    kept =
-        subst (λ ms. AreMarks no_work l.reads.items [] (lane_cells n Main) ms) (sym marks)
-        (subst (λ cs. AreMarks no_work l.reads.items [] (lane_cells n Main) (new_marks cs)) (main-line n h) (marks-new l.reads.items [] (lane_cells n Main)));
-    after = ([], subst (λ is. ArePlaces l.reads.items is []) (sym path) tt, subst (After []) (sym bindings) at_start);
-  };
+tracks-new n l rules h reads written path bindings = record {
+  unbranched = h;
+  distinct = distinct-live n rules;
+  rests = refl;
   hopeful = tt;
+  started = sym (ap length reads);
+  told = rw reads tt;
+  marks =
+      subst (λ ms. AreMarks no_work l.reads.items [] (lane_cells n Main) ms) (sym written)
+      (subst (λ cs. AreMarks no_work l.reads.items [] (lane_cells n Main) (new_marks cs)) (main-line n h) (marks-new l.reads.items [] (lane_cells n Main)));
+  context = ([], subst (λ is. ArePlaces l.reads.items is []) (sym path) tt, subst (After []) (sym bindings) at_start);
 }

@@ -1,9 +1,8 @@
 -- What stands ready for the evaluation of the cell that may start.
-use Rattle.std.proofs.Common.{◌≡◌, ℕ, ◌+◌, ◌<◌, ◌==◌, ◌||◌, ◌&&◌, not, Bool, true, false, cond, List, [], ◌∷◌, ◌++◌, map, length, get_or, Option, Some, None, refl, sym, ap, subst, ◌∙◌, arith, append_assoc, eqb-true}
-use Rattle.std.specs.Prelude.{option_map, slice_get, find, nat_eq}
+use Rattle.std.proofs.Common.{◌≡◌, ℕ, ◌<◌, ◌==◌, ◌&&◌, not, true, false, List, [], ◌∷◌, ◌++◌, map, length, get_or, Option, Some, None, refl, sym, ap, subst, ◌∙◌, append_assoc, eqb-true}
+use Rattle.std.specs.Prelude.{slice_get, find, nat_eq}
 use Rattle.std.specs.Cmp.Lexicographic.{pointwise, same_text}
 use Rattle.std.specs.List.{AllByRecursion}
-use Rattle.std.proofs.lemmas.Bool.Decides.{nat_tests}
 use Rattle.std.proofs.lemmas.List.{append-nil}
 use Rattle.std.proofs.lemmas.Option.{slice_get_read}
 use Rattle.std.proofs.Math.Seq.{get_or-append_seam}
@@ -30,15 +29,15 @@ use Rattle.main_lane.specs.Reads.{ArePlaces}
 use Rattle.main_lane.specs.Marks.{IsLastOf, IsMark, AreMarks}
 use Rattle.main_lane.specs.Contexts.{HasAfter}
 use Rattle.main_lane.specs.Judging.{any_queued, is_current, ends_in_fault, is_evaluated_mark, is_failed_mark, IsDone, IsWantedAt, IsPlaceOfNext, path_of_last, path_of_mark, path_before}
-use Rattle.main_lane.specs.Tracks.{Tracks, IsNext, cell_of, found_at}
-use Rattle.main_lane.proofs.Judged.{Judged, AreJudged, judged, all-judged}
-use Rattle.main_lane.proofs.Next.{JudgedCut, FirstWanted, stands-at}
+use Rattle.main_lane.specs.Tracks.{Tracks, IsNext, cell_of}
+use Rattle.main_lane.proofs.Holding.{holds_of}
+use Rattle.main_lane.proofs.Judged.{AreJudged, judged, all-judged}
+use Rattle.main_lane.proofs.Next.{JudgedCut, FirstWanted}
 use Rattle.main_lane.proofs.Calls.{MarksCut, marks-cut, holds-stand, tracks-first}
 use Rattle.main_lane.proofs.Paths.{shown-after}
 use Rattle.main_lane.proofs.Small.{and_first, and_second, not-true, equal-self, find-first, find-rest}
 
 -- equal paths, by the test
-
 pub paths-equal : (p q : List Passed) → same_path p q ≡ true → p ≡ q
 paths-equal [] [] e = refl
 paths-equal [] (y ∷ q) e = absurd (cc e)
@@ -116,7 +115,6 @@ path-front [] rest = refl
 path-front (f ∷ fs) rest = path-after f fs rest
 
 -- the cells before the one that may start are evaluated without faults
-
 all-sound : (n : Parts) (w : Work) (cs : List Cell) (ms : List Mark) → AreJudged n w cs ms → AllByRecursion IsDone ms → find (has_failed n w) (map cell_number cs) ≡ None → AllByRecursion IsSound ms
 all-sound n w [] [] j d f = tt
 all-sound n w [] (m ∷ ms) j d f = absurd j
@@ -158,7 +156,7 @@ pub record Ready (n : Parts) (w : Work) (l : MainLane) (at : ℕ) (c : Cell) : T
 
 ready-cut : (n : Parts) (w : Work) (l : MainLane) (at : ℕ) (p : IsWantedAt l.marks.items at) (cut : MarksCut w l.reads.items [] (lane_cells n Main) p.front p.mark p.back) → Tracks n w l → any_queued l.marks.items ≡ true → Ready n w l at cut.cell
 ready-cut n w l at p cut tr some =
-    let all : AllStand n [] (cut.before ++ cut.cell ∷ cut.after) = subst (AllStand n []) cut.parts (holds-stand n w l.reads.items l.marks.items l.context tr.holds) in
+    let all : AllStand n [] (cut.before ++ cut.cell ∷ cut.after) = subst (AllStand n []) cut.parts (holds-stand n w l.reads.items l.marks.items l.context (holds_of n w l tr)) in
     let rest : AllStand n cut.before (cut.cell ∷ cut.after) = stand-back n [] cut.before (cut.cell ∷ cut.after) all in
     let t : JudgedCut n w (lane_cells n Main) p.front p.mark p.back = record {
       before = cut.before;
@@ -200,7 +198,7 @@ get-seam (x ∷ front) back m = get-seam front back m
 pub ready : (n : Parts) (w : Work) (l : MainLane) (at : ℕ) (c : Cell) → Tracks n w l → IsNext n l.marks.items at c → Ready n w l at c
 ready n w l at c tr ((some, p), here) =
     let cut : MarksCut w l.reads.items [] (lane_cells n Main) p.front p.mark p.back =
-    marks-cut w l.reads.items [] (lane_cells n Main) p.front p.mark p.back (subst (AreMarks w l.reads.items [] (lane_cells n Main)) p.parts tr.holds.kept) in
+    marks-cut w l.reads.items [] (lane_cells n Main) p.front p.mark p.back (subst (AreMarks w l.reads.items [] (lane_cells n Main)) p.parts tr.marks) in
     let r : Ready n w l at cut.cell = ready-cut n w l at p cut tr some in
     let there : slice_get l.marks.items at ≡ Some p.mark = ap (λ ms. slice_get ms at) p.parts ∙ (ap (slice_get (p.front ++ p.mark ∷ p.back)) p.place ∙ get-seam p.front p.back p.mark) in
     let both : Some c ≡ Some cut.cell = sym here ∙ (ap (cell_of n) there ∙ (ap (λ k. found k (cells n)) cut.here.cell ∙ r.stands.live)) in
@@ -211,7 +209,7 @@ ready n w l at c tr ((some, p), here) =
 pub next-found : (n : Parts) (w : Work) (l : MainLane) (at : ℕ) (m : Mark) → Tracks n w l → IsPlaceOfNext l.marks.items (Some at) → m ≡ get_or l.marks.items at m → found m.cell (cells n) ≡ None → ⊥
 next-found n w l at m tr (some, p) is none =
     let cut : MarksCut w l.reads.items [] (lane_cells n Main) p.front p.mark p.back =
-    marks-cut w l.reads.items [] (lane_cells n Main) p.front p.mark p.back (subst (AreMarks w l.reads.items [] (lane_cells n Main)) p.parts tr.holds.kept) in
+    marks-cut w l.reads.items [] (lane_cells n Main) p.front p.mark p.back (subst (AreMarks w l.reads.items [] (lane_cells n Main)) p.parts tr.marks) in
     let r : Ready n w l at cut.cell = ready-cut n w l at p cut tr some in
     let here : m ≡ p.mark = is ∙ (ap (λ ms. get_or ms at m) p.parts ∙ (ap (λ k. get_or (p.front ++ p.mark ∷ p.back) k m) p.place ∙ get_or-append_seam p.front p.mark p.back m)) in
     let live : found m.cell (cells n) ≡ Some cut.cell = ap (λ (x : Mark). found x.cell (cells n)) here ∙ (ap (λ k. found k (cells n)) cut.here.cell ∙ r.stands.live) in

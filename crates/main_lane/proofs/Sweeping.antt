@@ -1,9 +1,8 @@
 -- Sweeping the marks sweeps the work.
-use Rattle.std.proofs.Common.{◌≡◌, ℕ, ◌+◌, ◌==◌, ◌||◌, ◌&&◌, not, Bool, true, false, cond, List, [], ◌∷◌, ◌++◌, map, length, Option, Some, None, refl, sym, ap, subst, ◌∙◌, arith, append_assoc, eqb-true}
+use Rattle.std.proofs.Common.{◌≡◌, ℕ, ◌==◌, ◌||◌, ◌&&◌, not, Bool, true, false, cond, List, [], ◌∷◌, ◌++◌, map, Option, Some, None, refl, sym, ap, subst, ◌∙◌, eqb-true}
 use Rattle.std.specs.Prelude.{if◌then◌else◌, option_map, filter, find, is_some}
 use Rattle.std.specs.Option.{option_or}
 use Rattle.std.specs.List.{AllByRecursion}
-use Rattle.std.proofs.lemmas.Bool.Decides.{nat_tests}
 use Rattle.std.proofs.lemmas.List.{append-nil, map-append}
 use Rattle.std.proofs.lemmas.List.Folds.{find-append}
 use Rattle.notebook.specs.declared.parts.Cell.{Cell}
@@ -14,15 +13,16 @@ use Rattle.notebook.specs.declared.states.Validity.TheVariants.{Aborted}
 use Rattle.notebook.specs.Rules.{cell_number}
 use Rattle.notebook.specs.Flow.{Passed, passed, path, lane_cells}
 use Rattle.notebook.specs.Validity.{validity_by_path, is_evaluated_so}
-use Rattle.session_ops.specs.Work.{Work, Finished, is_in, earlier, last_finished, path_read, has_path, is_evaluated, shows_fault, has_failed, failed_ancestor, is_hopeful, is_hopeless, swept}
-use Rattle.session_ops.proofs.MainFlow.{or_first, Stands, AllStand}
+use Rattle.session_ops.specs.Work.{Work, is_in, earlier, last_finished, path_read, has_path, shows_fault, has_failed, failed_ancestor, is_hopeful, is_hopeless, swept}
+use Rattle.session_ops.proofs.MainFlow.{Stands, AllStand}
 use Rattle.main_lane.specs.declared.reads.Read.{Read}
 use Rattle.main_lane.specs.declared.marks.Mark.{Mark}
 use Rattle.main_lane.specs.declared.context.Context.{Context}
 use Rattle.main_lane.specs.Marks.{IsLastOf, IsMark, AreMarks}
 use Rattle.main_lane.specs.Judging.{is_failed_mark, swept_mark, swept_marks}
 use Rattle.main_lane.specs.declared.lane.MainLane.{MainLane}
-use Rattle.main_lane.specs.Tracks.{Holds, Tracks, IsOfLane, IsHopeful}
+use Rattle.main_lane.specs.Tracks.{Tracks}
+use Rattle.main_lane.proofs.Holding.{Holds, IsOfLane, IsHopeful, hope_of}
 use Rattle.main_lane.proofs.Judged.{Judged, judged}
 use Rattle.main_lane.proofs.Calls.{holds-stand}
 use Rattle.main_lane.proofs.Small.{and-false, or-true, or-false}
@@ -224,4 +224,4 @@ holds-unswept n w rs ms x h hope = marks-unswept n w rs [] (lane_cells n Main) m
 
 -- a sweep after what changed nothing changes nothing
 pub same_work : (n : Parts) (w : Work) (l : MainLane) → Tracks n w l → Tracks n (swept n w) l
-same_work n w l t = subst (λ v. Tracks n v l) (sym (unswept n w t.hopeful)) t
+same_work n w l t = subst (λ v. Tracks n v l) (sym (unswept n w (hope_of n w l t))) t

@@ -1,19 +1,17 @@
 -- Evaluating a path anew, place by place.
-use Rattle.std.proofs.Common.{◌≡◌, ℕ, ◌+◌, ◌<◌, ◌≤◌, List, [], ◌∷◌, ◌++◌, map, length, take, drop, get_or, Option, Some, None, refl, sym, ap, subst, ◌∙◌, arith, append_assoc, add-one, zero, suc}
-use Rattle.std.specs.Prelude.{option_map, slice_get}
-use Rattle.std.proofs.lemmas.List.{append-nil, map-append, take_all, take-append-drop}
-use Rattle.std.proofs.lemmas.Option.{slice_get-get_or}
+use Rattle.std.proofs.Common.{◌≡◌, ℕ, ◌+◌, ◌<◌, ◌≤◌, List, [], ◌∷◌, ◌++◌, map, length, take, drop, get_or, Some, refl, sym, ap, subst, ◌∙◌, arith, add-one, zero, suc}
+use Rattle.std.proofs.lemmas.List.{map-append, take_all, take-append-drop}
 use Rattle.ex_model.specs.declared.bindings.Binding.{Binding}
 use Rattle.ex_model.specs.declared.ran.Ran.{Ran}
 use Rattle.ex_model.specs.Bound.{put_all}
-use Rattle.ex_model.specs.Along.{MeansInCell, After, at_start}
+use Rattle.ex_model.specs.Along.{MeansInCell, After}
 use Rattle.notebook.specs.Flow.{Passed}
 use Rattle.session_ops.specs.State.{source_bytes}
 use Rattle.main_lane.specs.declared.reads.Read.{Read}
 use Rattle.main_lane.specs.declared.context.Context.{Context}
 use Rattle.main_lane.specs.Reads.{IsReadAt, ArePlaces}
 use Rattle.main_lane.specs.Contexts.{HasAfter, IsContext}
-use Rattle.main_lane.proofs.Paths.{after-begin, after-one, after-unique}
+use Rattle.main_lane.proofs.Paths.{after-begin, after-one}
 
 -- what was read at one place of a path
 pub record PathAt (rs : List Read) (is : List ℕ) (p : List Passed) (i : ℕ) : Type 0 where

@@ -1,10 +1,14 @@
 -- Loops that write one element after the other.
-use Rattle.std.proofs.Common.{◌≡◌, ℕ, ◌+◌, ◌<◌, ◌≤◌, Bool, true, false, ◌||◌, List, [], ◌∷◌, ◌++◌, take, drop, set, get_or, map, length, refl, sym, ap, subst, ◌∙◌, arith, zero, suc, append_assoc, add-one, drop-cons, length-append}
-use Rattle.std.proofs.lemmas.List.{take_all, drop_all, take_more, length-take-le, take-append-drop, append-nil, map-append}
+use Rattle.std.proofs.Common.{◌≡◌, ℕ, ◌+◌, ◌<◌, ◌≤◌, Bool, true, false, ◌||◌, List, [], ◌∷◌, ◌++◌, take, drop, set, get_or, map, length, refl, sym, ap, subst, ◌∙◌, suc, append_assoc, add-one, drop-cons, length-append}
+use Rattle.std.proofs.lemmas.List.{take_all, drop_all, take_more, append-nil, map-append}
 use Rattle.std.proofs.Math.Seq.{set-append_seam, get_or-append_seam}
+use Rattle.std.specs.Prelude.{◌==◌, not, nat_eq, if◌then◌else◌}
+use Rattle.std.specs.Cmp.Lexicographic.{pointwise}
+use Rattle.session_ops.proofs.MainFlow.{or_first, or_second}
+use Rattle.main_lane.specs.declared.reads.Read.{Read}
 use Rattle.main_lane.specs.declared.marks.Mark.{Mark}
-use Rattle.main_lane.specs.Judging.{swept_mark, swept_marks, is_failed_mark}
-use Rattle.notebook.proofs.Finding.{cut_here}
+use Rattle.main_lane.proofs.Small.{or-false}
+use Rattle.main_lane.specs.Judging.{same_flag, changes, any_changes, reread, reread_all, swept_mark, swept_marks, is_failed_mark}
 
 -- the elements before a place are new, and the others are as they were
 pub record IsWrittenTo {X : Type 0} (front : List X) (i : ℕ) (old new : List X) : Type 0 where
@@ -101,17 +105,45 @@ swept_turn i old new failed x y fails after w within at e f a =
     let flag : after ≡ failed || is_failed_mark x = a ∙ ap (λ b. failed || b) (f ∙ ap is_failed_mark (sym at)) in
     rw (is, flag) (swept_more i old new failed x w within at)
 
--- a read that didn't change leaves the list as it was
-pub set-own : {X : Type 0} (xs : List X) (i : ℕ) (x y : X) → i < length xs → x ≡ get_or xs i x → y ≡ x → set xs i y ≡ xs
-set-own [] i x y within at e = absurd (omega arith)
-set-own (z ∷ zs) zero x y within at e = ap (λ w. w ∷ zs) (e ∙ at)
-set-own (z ∷ zs) (suc i) x y within at e = ap (λ ws. z ∷ ws) (set-own zs i x y (omega arith) at e)
+-- whether one of the earlier reads changed
+any_changes-append : (cell : ℕ) (source : List ℕ) (rs : List Read) (r : Read) → any_changes cell source (rs ++ r ∷ []) ≡ any_changes cell source rs || changes cell source r
+any_changes-append cell source [] r = or-false (changes cell source r)
+any_changes-append cell source (x ∷ rs) r =
+    elim (changes cell source x)
+    as (λ b. (b || any_changes cell source (rs ++ r ∷ [])) ≡ ((b || any_changes cell source rs) || changes cell source r))
+    [ true ↦ refl | false ↦ any_changes-append cell source rs r ]
 
--- where a flag isn't raised, nothing was written
-pub unchanged_turn : {X : Type 0} (old new : List X) (i : ℕ) (x y : X) (was now here : Bool) → (was ≡ false → new ≡ old) → i < length new → x ≡ get_or new i x → (here ≡ false → y ≡ get_or new i x) → now ≡ was || here → now ≡ false → set new i y ≡ old
-unchanged_turn old new i x y true now here h within at same e none = absurd (cc (e, none))
-unchanged_turn old new i x y false now true h within at same e none = absurd (cc (e, none))
-unchanged_turn old new i x y false now false h within at same e none = set-own new i x y within at (same refl ∙ sym at) ∙ h refl
+pub changed_turn : (cell : ℕ) (source : List ℕ) (i : ℕ) (old new : List Read) (x : Read) (was here now : Bool) → IsMappedTo (reread cell source) i old new → i < length old → x ≡ get_or new i x → was ≡ any_changes cell source (take i old) → here ≡ changes cell source (get_or new i x) → now ≡ was || here → now ≡ any_changes cell source (take (i + 1) old)
+changed_turn cell source i old new x was here now w within at before e flag =
+    let is : x ≡ get_or old i x = unwritten (map (reread cell source) (take i old)) i old new x w within at in
+    let more : take (i + 1) old ≡ take i old ++ x ∷ [] = take_more old i x within ∙ ap (λ y. take i old ++ y ∷ []) (sym is) in
+    let one : here ≡ changes cell source x = e ∙ ap (changes cell source) (sym at) in
+    flag
+    ∙ (ap (λ b. b || here) before
+    ∙ (ap (λ b. any_changes cell source (take i old) || b) one ∙ (sym (any_changes-append cell source (take i old) x) ∙ ap (any_changes cell source) (sym more))))
+
+pub changed_all : (cell : ℕ) (source : List ℕ) (i : ℕ) (old : List Read) (changed : Bool) → changed ≡ any_changes cell source (take i old) → length old ≤ i → changed ≡ any_changes cell source old
+changed_all cell source i old changed e past = let all : take i old ≡ old = take_all i old past in e ∙ ap (any_changes cell source) all
+
+-- where no flag changes, all reads are as they were
+flags-same : (a b : Bool) → not (same_flag a b) ≡ false → a ≡ b
+flags-same true true e = refl
+flags-same true false e = absurd (cc e)
+flags-same false true e = absurd (cc e)
+flags-same false false e = refl
+
+unchanged-one : (cell : ℕ) (source : List ℕ) (r : Read) → changes cell source r ≡ false → reread cell source r ≡ r
+unchanged-one cell source r e =
+    elim (r.cell == cell)
+    as (λ b. not (same_flag (if b then record r { same = pointwise nat_eq r.source source } else r).same r.same) ≡ false → (if b then record r { same = pointwise nat_eq r.source source } else r) ≡ r)
+    [ true ↦ λ h. ap (λ s. record r { same = s }) (flags-same (pointwise nat_eq r.source source) r.same h) | false ↦ λ h. refl ]
+    e
+
+pub unchanged_all : (cell : ℕ) (source : List ℕ) (rs : List Read) → any_changes cell source rs ≡ false → reread_all cell source rs ≡ rs
+unchanged_all cell source [] e = refl
+unchanged_all cell source (r ∷ rs) e =
+    ap (λ x. x ∷ reread_all cell source rs) (unchanged-one cell source r (or_first (changes cell source r) (any_changes cell source rs) e))
+    ∙ ap (λ xs. r ∷ xs) (unchanged_all cell source rs (or_second (changes cell source r) (any_changes cell source rs) e))
 
 -- how flags come by
 pub flag_then : (a b r : Bool) → r ≡ true → b ≡ true → b ≡ a || r

@@ -19,6 +19,19 @@ reread cell source r = if r.cell == cell then record r { same = pointwise nat_eq
 abbrev pub reread_all : ℕ → List ℕ → List Read → List Read
 reread_all cell source rs = map (reread cell source) rs
 
+-- two flags are the same
+abbrev pub same_flag : Bool → Bool → Bool
+same_flag true b = b
+same_flag false b = not b
+
+-- whether a read's flag changes with its cell's new source, and whether one of some reads' does
+abbrev pub changes : ℕ → List ℕ → Read → Bool
+changes cell source r = not (same_flag (reread cell source r).same r.same)
+
+abbrev pub any_changes : ℕ → List ℕ → List Read → Bool
+any_changes cell source [] = false
+any_changes cell source (r ∷ rs) = changes cell source r || any_changes cell source rs
+
 -- whether the read at a place, and those at all places, have their cells' present sources
 abbrev pub is_same_read : Option Read → Bool
 is_same_read None = false

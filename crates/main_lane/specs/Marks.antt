@@ -1,6 +1,5 @@
 -- What the marks of the lane's cells stand for.
-use Rattle.std.specs.Prelude.{◌≡◌, ℕ, Bool, List, [], ◌∷◌, ◌++◌, map, Option, Some, None}
-use Rattle.ex_model.specs.declared.ran.Shown.{Shown}
+use Rattle.std.specs.Prelude.{◌≡◌, ℕ, List, [], ◌∷◌, ◌++◌, map, Option, Some, None}
 use Rattle.notebook.specs.declared.parts.Cell.{Cell}
 use Rattle.notebook.specs.Flow.{Passed, passed}
 use Rattle.notebook.specs.Validity.{same_path}

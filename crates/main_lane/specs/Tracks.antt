@@ -1,5 +1,5 @@
 -- What a main lane stands for, and what its calls answer.
-use Rattle.std.specs.Prelude.{◌≡◌, ℕ, ◌+◌, List, [], ◌∷◌, map, length, true, Option, Some, None, option_map, slice_get}
+use Rattle.std.specs.Prelude.{◌≡◌, ℕ, ◌+◌, List, [], map, length, Option, Some, None, option_map, slice_get}
 use Rattle.std.specs.Option.{option_copied}
 use Rattle.std.specs.List.{AllByRecursion}
 use Rattle.ex_model.specs.declared.ran.Shown.{Shown}
@@ -12,8 +12,6 @@ use Rattle.notebook.specs.Flow.{Passed, path, lane_of, lane_cells, IsUnbranched}
 use Rattle.notebook.specs.Validity.{validity_by, status_by}
 use Rattle.session_ops.specs.Work.{Work, Finished, is_in, is_running, last_finished, path_read, failed_ancestor, may_start, begun, stored, running_eval, swept}
 use Rattle.session_ops.specs.State.{ShowsAlong}
-use Rattle.main_lane.specs.declared.reads.Read.{Read}
-use Rattle.main_lane.specs.declared.context.Context.{Context}
 use Rattle.main_lane.specs.declared.marks.Mark.{Mark}
 use Rattle.main_lane.specs.declared.lane.MainLane.{MainLane}
 use Rattle.main_lane.specs.declared.lane.Evaluated.{Evaluated}
@@ -23,29 +21,20 @@ use Rattle.main_lane.specs.Contexts.{IsContext}
 use Rattle.main_lane.specs.Judging.{IsPlaceOfNext}
 use Rattle.main_lane.specs.Marks.{AreMarks}
 
--- a number is that of a cell of the main lane
-abbrev pub IsOfLane : Parts → ℕ → Type 0
-IsOfLane n cell = lane_of n cell ≡ Some Main
+-- a queued number is that of a cell of the main lane, and no cell before it failed
+abbrev pub IsHopefulOne : Parts → Work → ℕ → Type 0
+IsHopefulOne n w cell = (lane_of n cell ≡ Some Main) × (failed_ancestor n w cell ≡ None)
 
--- reads, marks and context stand for the work on a notebook without branches, where nothing runs and the queued cells are of the main lane
-pub record Holds (n : Parts) (w : Work) (reads : List Read) (marks : List Mark) (context : Context) : Type 0 where
+-- the lane stands for the work on a notebook without branches, where nothing runs and no queued cell is without hope
+pub record Tracks (n : Parts) (w : Work) (l : MainLane) : Type 0 where
   pub unbranched : IsUnbranched n
   pub distinct : AreDistinct (map cell_number (cells n))
   pub rests : w.running ≡ []
-  pub lane : AllByRecursion (IsOfLane n) w.queued
-  pub started : w.started ≡ length reads
-  pub told : AreTold n reads
-  pub kept : AreMarks w reads [] (lane_cells n Main) marks
-  pub after : IsContext reads context
-
--- no cell before it failed
-abbrev pub IsHopeful : Parts → Work → ℕ → Type 0
-IsHopeful n w cell = failed_ancestor n w cell ≡ None
-
--- the lane holds the work, and no queued cell is without hope
-pub record Tracks (n : Parts) (w : Work) (l : MainLane) : Type 0 where
-  pub holds : Holds n w l.reads.items l.marks.items l.context
-  pub hopeful : AllByRecursion (IsHopeful n w) w.queued
+  pub hopeful : AllByRecursion (IsHopefulOne n w) w.queued
+  pub started : w.started ≡ length l.reads.items
+  pub told : AreTold n l.reads.items
+  pub marks : AreMarks w l.reads.items [] (lane_cells n Main) l.marks.items
+  pub context : IsContext l.reads.items l.context
 
 abbrev pub shown_in : Finished → Shown
 shown_in f = f.shown
@@ -74,7 +63,7 @@ abbrev pub once_stored : Parts → Work → Evaluated → Work
 once_stored n w e = let v : Work = once_begun n w e in swept n (stored e.shown v (running_eval v e.eval))
 
 -- the cell that may start was evaluated along its path, under the next number, and what it showed was stored
-pub record HasEvaluated (n : Parts) (w : Work) (new : MainLane) (e : Evaluated) : Type 0 where
+pub record HasEvaluated (n : Parts) (w : Work) (e : Evaluated) (new : MainLane) : Type 0 where
   pub may : may_start n w Main ≡ Some e.cell
   pub eval : e.eval ≡ w.started + 1
   pub along : (p : List Passed) × ((path n e.cell ≡ Some p) × ShowsAlong p e.shown)
@@ -83,7 +72,7 @@ pub record HasEvaluated (n : Parts) (w : Work) (new : MainLane) (e : Evaluated) 
 -- the same; where no cell may start nothing was changed
 abbrev pub HasTried : Parts → Work → MainLane → Option Evaluated → Type 0
 HasTried n w new None = (may_start n w Main ≡ None) × Tracks n w new
-HasTried n w new (Some e) = HasEvaluated n w new e
+HasTried n w new (Some e) = HasEvaluated n w e new
 
 -- the cell of the mark at a place
 abbrev pub cell_of : Parts → Option Mark → Option Cell

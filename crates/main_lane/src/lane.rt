@@ -150,7 +150,7 @@ impl MainLane {
         cell: &Cell,
     ) -> Result<Evaluated, AllocError>
         requires { at < length self.old.marks.items }
-        ensures { (n : Parts) (w : Work) → Tracks n w self.old → IsNext n self.old.marks.items at cell.now → IfOk result (HasEvaluated n w self.new) }
+        ensures { (n : Parts) (w : Work) → Tracks n w self.old → IsNext n self.old.marks.items at cell.now → IfOk result (λ e. HasEvaluated n w e self.new) }
     {
         let mut path = path_before(alloc, &self.marks, at)?;
         self.context.move_to(alloc, &self.reads, &path)?;

@@ -1,6 +1,6 @@
 //! What was read at the starts of evaluations.
-ghost use Rattle.std.specs.Prelude.{◌≡◌, false};
-ghost use Rattle.main_lane.specs.Judging.{is_same_at, are_same, reread, reread_all};
+ghost use Rattle.std.specs.Prelude.{◌≡◌};
+ghost use Rattle.main_lane.specs.Judging.{is_same_at, are_same, reread, reread_all, changes, any_changes};
 
 use notebook::CellId;
 use utf16_text::Text;
@@ -18,7 +18,7 @@ impl Read {
     /// Compares with a cell's new source, and says whether that changed the flag.
     fn compare(&mut self, cell: CellId, source: &Text) -> bool
         ensures new { self.new ≡ reread cell source.now self.old }
-        ensures unchanged { result ≡ false → self.new ≡ self.old }
+        ensures changed { result ≡ changes cell source.now self.old }
     {
         if self.cell != cell {
             return false;
@@ -33,7 +33,7 @@ impl Read {
 /// Compares all reads with a cell's new source, and says whether that changed a flag.
 pub(crate) fn compare_all(reads: &mut [Read], cell: CellId, source: &Text) -> bool
     ensures new { reads.new ≡ reread_all cell source.now reads.old }
-    ensures unchanged { result ≡ false → reads.new ≡ reads.old }
+    ensures changed { result ≡ any_changes cell source.now reads.old }
 {
     let mut changed = false;
     for read in reads.iter_mut() {

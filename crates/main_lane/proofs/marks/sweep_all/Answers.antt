@@ -1,4 +1,4 @@
-use Rattle.std.proofs.Common.{◌≡◌, ◌||◌, refl, ◌∙◌}
+use Rattle.std.proofs.Common.{◌≡◌, ◌||◌}
 use Rattle.main_lane.proofs.Writing.{flag_first, flag_second, swept_turn, swept_all}
 use Rattle.main_lane.proofs.marks.sweep_all.Goals as goal
 use Rattle.main_lane.proofs.marks.sweep_all.Goals.{then-failed, else-failed}

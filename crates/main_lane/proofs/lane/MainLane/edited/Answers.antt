@@ -1,9 +1,8 @@
-use Rattle.std.proofs.Common.{◌≡◌, List, length, map, ◌∙◌, ap, sym, subst, refl, false}
+use Rattle.std.proofs.Common.{◌≡◌, length, ◌∙◌, ap, sym, refl, false}
 use Rattle.std.specs.Vec.{with_items}
 use Rattle.std.proofs.lemmas.List.{length-map, with_items_is}
-use Rattle.main_lane.specs.declared.marks.Mark.{Mark}
-use Rattle.main_lane.specs.Judging.{reread, reread_all, refreshed, refreshed_all, swept_marks}
-use Rattle.main_lane.proofs.Writing.{length-swept}
+use Rattle.main_lane.specs.Judging.{any_changes, reread, reread_all, refreshed, refreshed_all, swept_marks}
+use Rattle.main_lane.proofs.Writing.{length-swept, unchanged_all}
 use Rattle.main_lane.proofs.Editing.{tracks-edited, tracks-unchanged, tracks-nowhere}
 use Rattle.main_lane.proofs.lane.MainLane.edited.Goals as goal
 
@@ -28,7 +27,10 @@ returns-else-compare_all c = λ n w t tr same.
     c.compare_all.ensures.new ∙ ap (reread_all c.args.cell c.in-Some.found.now.source) c.deref_mut.ensures.value in
     let reads : (with_items c.args.self.now.reads c.compare_all.new.reads).items ≡ c.compare_all.new.reads =
     with_items_is c.args.self.now.reads c.compare_all.new.reads (ap length c.compare_all.ensures.new ∙ (length-map c.deref_mut.result.now (reread c.args.cell c.in-Some.found.now.source) ∙ c.deref_mut.ensures.len)) in
-    tracks-unchanged n c.args.book.now c.args.cell t c.in-Some.found.now w c.args.self.now _ tr same (sym c.in-Some.ensures) (reads ∙ compared) (reads ∙ (c.compare_all.ensures.unchanged c.if-compare_all.false ∙ c.deref_mut.ensures.value)) refl refl
+    let none : any_changes c.args.cell c.in-Some.found.now.source c.args.self.now.reads.items ≡ false =
+    ap (any_changes c.args.cell c.in-Some.found.now.source) (sym c.deref_mut.ensures.value) ∙ (sym c.compare_all.ensures.changed ∙ c.if-compare_all.false) in
+    let own : reread_all c.args.cell c.in-Some.found.now.source c.args.self.now.reads.items ≡ c.args.self.now.reads.items = unchanged_all c.args.cell c.in-Some.found.now.source c.args.self.now.reads.items none in
+    tracks-unchanged n c.args.book.now c.args.cell t c.in-Some.found.now w c.args.self.now _ tr same (sym c.in-Some.ensures) (reads ∙ compared) (reads ∙ (compared ∙ own)) refl refl
 
 pub returns-in_default : goal.returns-in_default
 returns-in_default c = λ n w t tr same. tracks-nowhere n c.args.book.now c.args.cell t w c.args.self.now tr same (sym c.in_default.ensures)

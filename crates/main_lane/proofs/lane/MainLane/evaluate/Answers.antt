@@ -1,4 +1,4 @@
-use Rattle.std.proofs.Common.{◌≡◌, sym, ◌∙◌}
+use Rattle.std.proofs.Common.{sym}
 use Rattle.main_lane.proofs.Calls.{tracks-none, place-within}
 use Rattle.main_lane.proofs.Ready.{next-found, next-at}
 use Rattle.main_lane.proofs.lane.MainLane.evaluate.Goals as goal

@@ -1,11 +1,9 @@
-use Rattle.std.proofs.Common.{◌≡◌, ◌++◌, ◌∷◌, [], List, length, map, sym, ◌∙◌, ap, subst, refl, true, false}
+use Rattle.std.proofs.Common.{◌≡◌, ◌++◌, ◌∷◌, [], length, map, sym, ◌∙◌, ap, subst, refl, true, false}
 use Rattle.std.specs.Prelude.{slice_set}
 use Rattle.std.specs.Vec.{with_item, with_items}
 use Rattle.std.proofs.lemmas.List.{with_items_is}
 use Rattle.ex_model.specs.Along.{After, MeansInCell}
-use Rattle.notebook.specs.declared.parts.Parts.{Parts}
-use Rattle.notebook.specs.Flow.{Passed, passed}
-use Rattle.session_ops.specs.Work.{Work}
+use Rattle.notebook.specs.Flow.{passed}
 use Rattle.session_ops.specs.State.{source_bytes}
 use Rattle.main_lane.specs.declared.reads.Read.{Read}
 use Rattle.main_lane.specs.declared.marks.Last.{Last}
@@ -24,7 +22,7 @@ returns c = λ n w tr next.
     let places : ArePlaces c.deref-2.result.now c.deref-3.result.now (map passed t.before) =
     subst (λ rs. ArePlaces rs c.deref-3.result.now (map passed t.before)) (sym c.deref-2.ensures.value) (subst (λ is. ArePlaces c.args.self.now.reads.items is (map passed t.before)) (sym (c.deref-3.ensures.value ∙ kept)) t.places) in
     let moved : After (map source_bytes (map passed t.before)) c.move_to.new.self.bindings × IsContext c.deref-2.result.now c.move_to.new.self =
-    c.in_ok-move_to.ensures (map passed t.before) (subst (λ rs. IsContext rs c.args.self.now.context) (sym c.deref-2.ensures.value) tr.holds.after) places t.has in
+    c.in_ok-move_to.ensures (map passed t.before) (subst (λ rs. IsContext rs c.args.self.now.context) (sym c.deref-2.ensures.value) tr.context) places t.has in
     let means : MeansInCell (source_bytes (passed c.args.cell.now)) c.move_to.new.self.bindings c.in_ok-ran.ran = subst (λ s. MeansInCell s c.move_to.new.self.bindings c.in_ok-ran.ran) c.as_str.ensures.bytes c.in_ok-ran.ensures in
     let r : Read = record { cell = c.args.cell.now.id; source = c.in_ok-copy.field-0; same = true } in
     let k : Last = record { path = c.push.new.self; shown = c.in_ok-shown.shown; current = true } in

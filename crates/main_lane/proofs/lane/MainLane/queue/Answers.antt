@@ -1,4 +1,4 @@
-use Rattle.std.proofs.Common.{◌≡◌, ◌∙◌, ap, sym, subst, refl}
+use Rattle.std.proofs.Common.{◌∙◌, ap, sym, subst, refl}
 use Rattle.main_lane.specs.Judging.{has_mark, IsMarkAt}
 use Rattle.main_lane.proofs.Queueing.{tracks-queued, tracks-marked}
 use Rattle.main_lane.proofs.lane.MainLane.queue.Goals as goal

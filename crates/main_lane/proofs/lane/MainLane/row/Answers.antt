@@ -1,4 +1,4 @@
-use Rattle.std.proofs.Common.{◌≡◌, ◌∙◌, ap, sym, subst, false}
+use Rattle.std.proofs.Common.{◌∙◌, ap, sym, subst}
 use Rattle.main_lane.specs.Judging.{has_mark, IsMarkAt}
 use Rattle.main_lane.proofs.Calls.{tracks-row, tracks-no_row}
 use Rattle.main_lane.proofs.lane.MainLane.row.Goals as goal
