@@ -230,14 +230,9 @@ fn edit_own(
 }
 
 /// An operation of the client's own, and what is printed of it.
-fn post_own(
-    own: &mut Client,
-    name: &str,
-    op: PostedOp,
-    out: &mut String,
-) -> Result<(), AllocError>
+fn post_own(own: &mut Client, name: &str, op: PostedOp, out: &mut String) -> Result<(), AllocError>
     ensures posted { OnOk result (own.new ≡ with_outbox own.old (own.old.outbox ++ op_of op ∷ [])) }
-        ensures printed { OnOk result (string_bytes out.new ≡ string_bytes out.old ++ as_text (posted_words name.now ∷ [])) }
+    ensures printed { OnOk result (string_bytes out.new ≡ string_bytes out.old ++ as_text (posted_words name.now ∷ [])) }
 {
     own.post(op_of(op))?;
     push_posted(out, name)?;

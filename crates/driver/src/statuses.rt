@@ -124,11 +124,13 @@ fn push_cell(
 {
     match lane.row(cell) {
         None => Ok(()),
-        Some(Row {
-            status,
-            validity,
-            shown,
-        }) => {
+        Some(
+            Row {
+                status,
+                validity,
+                shown,
+            },
+        ) => {
             push_state(out, alloc, cell, home, status, validity, shown)?;
             Ok(())
         }

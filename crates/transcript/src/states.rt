@@ -76,11 +76,7 @@ fn push_shown(out: &mut String, alloc: Global, shown: &Shown) -> Result<(), Allo
 }
 
 /// Puts what an evaluation showed after a text, where there is one.
-fn push_shown_if(
-    out: &mut String,
-    alloc: Global,
-    shown: Option<&Shown>,
-) -> Result<(), AllocError>
+fn push_shown_if(out: &mut String, alloc: Global, shown: Option<&Shown>) -> Result<(), AllocError>
     ensures { OnOk result (string_bytes out.new ≡ string_bytes out.old ++ shown_text (option_map (λ s. s.now) shown.entry)) }
 {
     match shown {

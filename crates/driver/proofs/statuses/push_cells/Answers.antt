@@ -8,8 +8,7 @@ use Rattle.driver.proofs.statuses.push_cells.Goals as goal
 pub loop-cell-preserved : goal.loop-cell-preserved
 loop-cell-preserved c = λ n w t all.
     let inv = c.loop-cell.invariant n w t all in
-    let at = paths-at n c.args.cells.now c.loop-cell.cell-index c.cell-item.result inv.1 c.loop-cell-test.true c.cell-item.is in
-    (
+    let at = paths-at n c.args.cells.now c.loop-cell.cell-index c.cell-item.result inv.1 c.loop-cell-test.true c.cell-item.is in (
       rw (c.in_ok-push_code.ensures n w t at.0) (cells-more n w c.args.home c.args.cells.now c.loop-cell.cell-index c.cell-item.result (string_bytes c.loop-cell.out) c.loop-cell-test.true c.cell-item.is ∙ inv.0),
       at.1,
     )

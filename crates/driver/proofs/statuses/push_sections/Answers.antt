@@ -8,8 +8,7 @@ use Rattle.driver.proofs.statuses.push_sections.Goals as goal
 pub loop-section-preserved : goal.loop-section-preserved
 loop-section-preserved c = λ n w t all.
     let inv = c.loop-section.invariant n w t all in
-    let at = section-paths-at n c.args.sections.now c.loop-section.section-index c.section-item.result inv.1 c.loop-section-test.true c.section-item.is in
-    (
+    let at = section-paths-at n c.args.sections.now c.loop-section.section-index c.section-item.result inv.1 c.loop-section-test.true c.section-item.is in (
       rw (c.in_ok-push_section.ensures n w t at.0) (sections-more n w c.args.sections.now c.loop-section.section-index c.section-item.result (string_bytes c.loop-section.out) c.loop-section-test.true c.section-item.is ∙ inv.0),
       at.1,
     )
