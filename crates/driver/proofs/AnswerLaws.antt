@@ -4,7 +4,7 @@ use Rattle.book_outside.specs.Outside.{Rose, GivesFront}
 use Rattle.livemd_read.specs.declared.types.Read.{Read}
 use Rattle.livemd_read.specs.Reads.{items_of}
 use Rattle.livemd_read.specs.Book.{notices_of}
-use Rattle.livemd_read.specs.Items.{Item, Name, Section, Markdown, Blank}
+use Rattle.livemd_read.specs.Items.{Item, Name, Section, Setup, Code, Markdown, Blank}
 use Rattle.script.specs.declared.content.Content.{Content}
 use Rattle.driver.specs.declared.outcome.Report.{Report}
 use Rattle.driver.specs.declared.outcome.RunFault.{RunFault}
@@ -50,6 +50,8 @@ no-notices : (is : List Item) → notices_of is ≡ []
 no-notices [] = refl
 no-notices (Name t ∷ is) = no-notices is
 no-notices (Section t ∷ is) = no-notices is
+no-notices (Setup t ∷ is) = no-notices is
+no-notices (Code t ∷ is) = no-notices is
 no-notices (Markdown t ∷ is) = no-notices is
 no-notices (Blank ∷ is) = no-notices is
 

@@ -1,5 +1,5 @@
 //! The top call: words, shelf and sink in, the status out.
-ghost use Rattle.std.specs.Prelude.{◌≡◌, ◌≤◌, List, ℕ, Option, map, IfSome, string_bytes};
+ghost use Rattle.std.specs.Prelude.{◌≡◌, ◌≤◌, List, ℕ, Option, map, IfSome, IfOk, string_bytes};
 ghost use Rattle.notebook.specs.Flow.{IsUnbranched};
 ghost use Rattle.script.specs.Play.{IsPlayable};
 ghost use Rattle.driver.specs.Program.{IsPlay, IsAnswer, status_of};
@@ -131,6 +131,7 @@ fn finished(played: Played) -> Outcome
 /// The book of a name.
 fn read_book<S: Shelf>(alloc: Global, name: &str, shelf: &mut S) -> Result<Read, RunFault>
     ensures answer { IsBookAnswer (S.held shelf.old) name.now (S.faults shelf.old) (S.faults shelf.new) result }
+    ensures unbranched { IfOk result (λ r. IsUnbranched r.notebook) }
     ensures same { S.held shelf.new ≡ S.held shelf.old }
     ensures counts { S.faults shelf.old ≤ S.faults shelf.new }
 {
@@ -154,7 +155,8 @@ fn read_lines<S: Shelf>(alloc: Global, name: &str, shelf: &mut S) -> Result<Scri
 
 /// The book that bytes are.
 fn notebook_of(alloc: Global, bytes: &[u8]) -> Result<Read, RunFault>
-    ensures { BytesAreBook bytes.now result }
+    ensures answer { BytesAreBook bytes.now result }
+    ensures unbranched { IfOk result (λ r. IsUnbranched r.notebook) }
 {
     match read(alloc, bytes) {
         Ok(book) => Ok(book),
