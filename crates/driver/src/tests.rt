@@ -200,3 +200,54 @@ fn a_sync_stands_between_edits(rt: HostRuntime) -> Result<(), Fail> {
     assert_eq!(rt; report.history.len(), 3);
     Ok(())
 }
+
+/// The number of entries and what was written, over a section of two code cells, `x = 2` and another.
+fn run_cells<R: Threads + Wait + Sync>(
+    rt: &R,
+    alloc: Global,
+    second: &str,
+    script: &str,
+) -> Result<(usize, Vec<u8>), Fail> {
+    let mut book = String::from_str(alloc, "## S\n\n```elixir\nx = 2\n```\n\n```elixir\n")?;
+    book.push_str(second)?;
+    book.push_str("\n```\n")?;
+    let (outcome, written) = run(rt, alloc, &["b", "s"], &[book.as_str(), script], &[])?;
+    let report = outcome.report.ok_or("a report")?;
+    Ok((report.history.len(), written))
+}
+
+const SETTLED: &str =
+    "ann joined at 1\nann post: ok\nann sent: ok\nsync at 2\nsettled\ncode 1 main ready evaluated value 2\ncode 2 main ready evaluated value 42\nend\nnotebook \"Untitled notebook\"\nsection 1 \"S\"\ncell 1 code rev 0 \"x = 2\"\ncell 2 code rev 0 \"x * 21\"\ncode 1 main ready evaluated value 2\ncode 2 main ready evaluated value 42\n";
+
+const UNBOUND: &str =
+    "ann joined at 1\nann post: ok\nann sent: ok\nsync at 2\nend\nnotebook \"Untitled notebook\"\nsection 1 \"S\"\ncell 1 code rev 0 \"x = 2\"\ncell 2 code rev 0 \"x + y\"\ncode 1 main ready evaluated value 2\ncode 2 main ready evaluated fault unbound variable: y\n";
+
+const UNBUILT: &str =
+    "ann joined at 1\nann post: ok\nann sent: ok\nsync at 2\nend\nnotebook \"Untitled notebook\"\nsection 1 \"S\"\ncell 1 code rev 0 \"x = 2\"\ncell 2 code rev 0 \"[x]\"\ncode 1 main ready evaluated value 2\ncode 2 main ready evaluated fault unbuilt\n";
+
+const NO_CELL: &str =
+    "ann joined at 1\nann post: ok\nann sent: refused NoCell\nsync at 2\nend\nnotebook \"Untitled notebook\"\nsection 1 \"S\"\ncell 1 code rev 0 \"x = 2\"\ncell 2 code rev 0 \"1\"\ncode 1 main ready fresh\ncode 2 main ready fresh\n";
+
+#[test]
+fn cells_are_evaluated(rt: HostRuntime) -> Result<(), Fail> {
+    let alloc = rt.alloc();
+    let script = "join ann\npost ann queue 2\nsync\nsettle\ncells\n";
+    let (entries, written) = run_cells(&rt, alloc, "x * 21", script)?;
+    assert_eq!(rt; entries, 8);
+    assert_eq!(rt; written.as_slice(), SETTLED.as_bytes());
+    Ok(())
+}
+
+#[test]
+fn faults_of_cells_are_shown(rt: HostRuntime) -> Result<(), Fail> {
+    let alloc = rt.alloc();
+    let script = "join ann\npost ann queue 2\nsync\n";
+    let (_, written) = run_cells(&rt, alloc, "x + y", script)?;
+    assert_eq!(rt; written.as_slice(), UNBOUND.as_bytes());
+    let (_, written) = run_cells(&rt, alloc, "[x]", script)?;
+    assert_eq!(rt; written.as_slice(), UNBUILT.as_bytes());
+    let script = "join ann\npost ann queue 9\nsync\n";
+    let (_, written) = run_cells(&rt, alloc, "1", script)?;
+    assert_eq!(rt; written.as_slice(), NO_CELL.as_bytes());
+    Ok(())
+}
