@@ -32,7 +32,7 @@ use Rattle.driver.specs.Standing.{with_outbox}
 use Rattle.driver.specs.declared.session.Session.{Session}
 use Rattle.driver.specs.declared.client.Client.{Client}
 use Rattle.driver.proofs.Holding.{note-stays}
-use Rattle.driver.proofs.SessionLaws.{current-reply, reply_by, taken-holds, swept-holds}
+use Rattle.driver.proofs.SessionLaws.{current-reply, reply_by, taken-holds}
 
 -- what evaluators leave as it is
 pub record AreAlike (s t : State) : Type 0 where

@@ -1,5 +1,5 @@
 -- A session goes on standing for the state of its history while cells are evaluated.
-use Rattle.std.proofs.Common.{◌≡◌, ℕ, ◌+◌, ◌≤◌, true, false, List, [], ◌∷◌, ◌++◌, length, Option, Some, None, refl, sym, ap, subst, ◌∙◌, arith, append_assoc}
+use Rattle.std.proofs.Common.{◌≡◌, ℕ, ◌+◌, List, [], ◌∷◌, ◌++◌, length, Option, Some, refl, sym, ap, subst, ◌∙◌, arith, append_assoc}
 use Rattle.std.specs.Prelude.{find, filter, unwrap_or}
 use Rattle.std.proofs.lemmas.List.{length-append, append-nil}
 use Rattle.notebook.specs.declared.parts.Parts.{Parts}
@@ -9,13 +9,13 @@ use Rattle.session_ops.specs.declared.entry.Call.TheVariants.{Start, Respond}
 use Rattle.session_ops.specs.declared.entry.Reply.{Reply}
 use Rattle.session_ops.specs.declared.entry.Reply.TheVariants.{Started, Stored}
 use Rattle.session_ops.specs.declared.entry.Entry.{Entry}
-use Rattle.session_ops.specs.Work.{Work, Running, is_idle, is_eval, running_eval, may_start, begun, stored, swept}
-use Rattle.session_ops.specs.State.{State, Job, state, jobs, is_job, is_other_job, reply, start_reply, respond_reply, MayCall, IsAnswer, ShowsAlong, revision, Legal}
+use Rattle.session_ops.specs.Work.{Work, Running, is_eval, running_eval, may_start, stored, swept}
+use Rattle.session_ops.specs.State.{State, Job, state, jobs, is_job, is_other_job, reply, start_reply, respond_reply, MayCall, IsAnswer, ShowsAlong, Legal}
 use Rattle.session_ops.proofs.Growing.{state-append, jobs-append, legal-append}
 use Rattle.main_lane.specs.declared.lane.Evaluated.{Evaluated}
-use Rattle.main_lane.specs.Tracks.{Tracks, HasEvaluated, HasTried, once_begun, once_stored}
+use Rattle.main_lane.specs.Tracks.{Tracks, HasEvaluated, once_begun, once_stored}
 use Rattle.driver.specs.Headline.{AllAnswered, IsFollowed}
-use Rattle.driver.specs.Session.{IsSession, Holds, start_of, answer_of, AreEvaluationsBy, HasGoneOn, HasSettled}
+use Rattle.driver.specs.Session.{IsSession, start_of, answer_of, AreEvaluationsBy, HasGoneOn}
 use Rattle.driver.specs.declared.session.Session.{Session}
 use Rattle.driver.proofs.SessionLaws.{swept-holds, one-running, one-job, no-job, followed-more}
 

@@ -1,5 +1,5 @@
 -- What each line makes of the stage.
-use Rattle.std.proofs.Common.{◌≡◌, ◌≢◌, ℕ, ◌+◌, ◌≤◌, ◌==◌, Bool, true, false, if◌then◌else◌, List, [], ◌∷◌, ◌++◌, length, map, drop, Option, Some, None, codes, refl, sym, ap, subst, ◌∙◌, arith, append_assoc, inl, inr}
+use Rattle.std.proofs.Common.{◌≡◌, ◌≢◌, ℕ, ◌≤◌, ◌==◌, Bool, true, false, if◌then◌else◌, List, [], ◌∷◌, ◌++◌, length, map, drop, Some, None, codes, refl, sym, ap, subst, ◌∙◌, arith, inl, inr}
 use Rattle.std.proofs.lemmas.Bool.Decides.{nat_tests}
 use Rattle.std.proofs.lemmas.List.{length-append, append-nil, map-append, drop_all, drop_at}
 use Rattle.delta.specs.declared.Step.{Step}
@@ -8,7 +8,7 @@ use Rattle.notebook.specs.declared.parts.Parts.{Parts}
 use Rattle.session_ops.specs.declared.entry.Op.{Op}
 use Rattle.session_ops.specs.declared.entry.Op.TheVariants.{Join as Joins, Delta, Queue as Queues}
 use Rattle.session_ops.specs.declared.entry.Call.{Call}
-use Rattle.session_ops.specs.declared.entry.Call.TheVariants.{Client as ByClient, Start, Respond}
+use Rattle.session_ops.specs.declared.entry.Call.TheVariants.{Client as ByClient}
 use Rattle.session_ops.specs.declared.entry.Reply.{Reply}
 use Rattle.session_ops.specs.declared.entry.Reply.TheVariants.{Accepted, Applied, Started, Stored, Late, Refused}
 use Rattle.session_ops.specs.declared.entry.Entry.{Entry}
@@ -16,11 +16,11 @@ use Rattle.session_ops.specs.Work.{is_in}
 use Rattle.session_ops.specs.State.{state, after, revision, entries_by}
 use Rattle.session_ops.specs.Same.{same_numbers, same_step, same_steps, same_op, same_call}
 use Rattle.session_ops.proofs.Growing.{state-append}
-use Rattle.client_sync.specs.Client.{Client as Holder, Edited, edited, received, held, delivered, joined_client, client_of, put_client, with_message}
+use Rattle.client_sync.specs.Client.{Client as Holder, Edited, edited, held, delivered, joined_client, client_of, put_client, with_message}
 use Rattle.client_sync.specs.Causes.{IsEditCause}
 use Rattle.client_sync.specs.declared.edit_error.EditError.{EditError}
 use Rattle.client_sync.specs.declared.edit_error.EditError.TheVariants.{NoCell as NoCellError, EditTooLong as TooLongError, PastEnd, SplitsPair, OutOfMemory}
-use Rattle.script.specs.declared.line.ScriptLine.TheVariants.{Join, Edit, Post, Sync, Show, Settle, Cells}
+use Rattle.script.specs.declared.line.ScriptLine.TheVariants.{Join, Edit, Post, Sync, Show}
 use Rattle.script.specs.declared.line.PostedOp.{PostedOp}
 use Rattle.script.specs.declared.line.PostedOp.TheVariants.{Queue}
 use Rattle.notebook.specs.declared.parts.Cell.{Cell}
@@ -32,8 +32,8 @@ use Rattle.driver.specs.Turns.{Turn, Made, Looked, turns_from, AreMarks}
 use Rattle.driver.specs.Player.{Game, Stage, with_edited, joined, say, with_clients, name_of, edit_line, post_line, op_of, play_post, sync_line, joined_line, not_joined_line}
 use Rattle.driver.specs.Headline.{AllOfRun, call_of}
 use Rattle.driver.specs.Lines.{joined_words, not_joined_words, posted_words, sync_words, error_words}
-use Rattle.driver.specs.Session.{IsSession, HasAnswered, entry_of}
-use Rattle.driver.specs.Holder.{Mirrors, AreEvaluations, flights}
+use Rattle.driver.specs.Session.{HasAnswered, entry_of}
+use Rattle.driver.specs.Holder.{Mirrors, flights}
 use Rattle.driver.proofs.ClientLaws.{behind-revision, holds-own, queue-posted, flights-queue}
 use Rattle.driver.specs.Standing.{StandsFor, Stands, Waits, with_outbox, HasPlayed, IsEdited, IsUnedited, HasEdited}
 use Rattle.driver.specs.declared.session.Session.{Session}

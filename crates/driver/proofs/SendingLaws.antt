@@ -1,23 +1,21 @@
 -- What waits in the client's outbox goes to the server and comes back.
-use Rattle.std.proofs.Common.{◌≡◌, ℕ, ◌+◌, ◌<◌, ◌≤◌, zero, suc, true, List, [], ◌∷◌, ◌++◌, length, map, drop, take, get_or, Option, Some, None, codes, refl, sym, ap, subst, ◌∙◌, arith, append_assoc}
+use Rattle.std.proofs.Common.{◌≡◌, ℕ, ◌+◌, ◌<◌, ◌≤◌, zero, suc, true, List, [], ◌∷◌, ◌++◌, length, drop, get_or, Option, Some, None, refl, sym, ap, subst, ◌∙◌, arith, append_assoc}
 use Rattle.std.proofs.lemmas.List.{length-append, append-nil, drop_at, drop_more, drop_all}
 use Rattle.notebook.specs.declared.parts.Parts.{Parts}
 use Rattle.session_ops.specs.declared.entry.Op.{Op}
 use Rattle.session_ops.specs.declared.entry.Call.{Call}
 use Rattle.session_ops.specs.declared.entry.Call.TheVariants.{Client as ByClient}
-use Rattle.session_ops.specs.declared.entry.Reply.{Reply}
 use Rattle.session_ops.specs.declared.entry.Entry.{Entry}
-use Rattle.session_ops.specs.State.{state, entries_by}
+use Rattle.session_ops.specs.State.{state}
 use Rattle.session_ops.specs.Same.{same_call}
 use Rattle.client_sync.specs.Client.{Client as Holder, put_client, received, received_entry}
 use Rattle.script.specs.declared.line.ScriptLine.TheVariants.{Sync}
 use Rattle.transcript.specs.Texts.{as_text}
-use Rattle.driver.specs.Turns.{Turn, Made, Looked, turns_from, AreMarks}
+use Rattle.driver.specs.Turns.{Turn, Made, Looked, turns_from}
 use Rattle.driver.specs.Player.{Game, Stage, Marked, say, with_clients, without_front, name_of, sent_line, sync_line, or_none, looks, receive_all, send, send_all, round, rounds, all_sent}
-use Rattle.driver.specs.Headline.{AllOfRun, call_of}
 use Rattle.driver.specs.Lines.{sent_words, sync_words}
-use Rattle.driver.specs.Session.{IsSession, HasAnswered, IsCurrent, entry_of}
-use Rattle.driver.specs.Holder.{Mirrors, Carries, flights, confirmed_op}
+use Rattle.driver.specs.Session.{IsSession, IsCurrent, entry_of}
+use Rattle.driver.specs.Holder.{Mirrors, Carries, flights}
 use Rattle.driver.specs.Standing.{StandsFor, Stands, HasPlayed, with_outbox, HasAnsweredOne, HasSent, MaySend, HasExchanged, HasExchangedAny}
 use Rattle.driver.specs.declared.session.Session.{Session}
 use Rattle.driver.specs.declared.client.Client.{Client}

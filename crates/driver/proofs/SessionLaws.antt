@@ -17,15 +17,14 @@ use Rattle.notebook.specs.Book.{cells, section_cells, found, resourced, resource
 use Rattle.notebook.specs.Rules.{cell_number, AreDistinct, IsNotebook}
 use Rattle.session_ops.specs.declared.entry.Op.TheVariants.{Join, Delta, Queue}
 use Rattle.session_ops.specs.declared.entry.Op.{Op}
-use Rattle.session_ops.specs.declared.entry.Call.{Call}
-use Rattle.session_ops.specs.declared.entry.Call.TheVariants.{Client, Start, Respond}
+use Rattle.session_ops.specs.declared.entry.Call.TheVariants.{Client}
 use Rattle.session_ops.specs.declared.entry.Refusal.{Refusal}
-use Rattle.session_ops.specs.declared.entry.Refusal.TheVariants.{NotJoined, AlreadyJoined, NoCell, NotCode, AncestorFailed}
+use Rattle.session_ops.specs.declared.entry.Refusal.TheVariants.{NotJoined, AlreadyJoined}
 use Rattle.session_ops.specs.declared.entry.Entry.{Entry}
 use Rattle.session_ops.specs.declared.entry.Reply.{Reply}
 use Rattle.session_ops.specs.declared.entry.Reply.TheVariants.{Accepted, Applied, Started, Stored, Late, Refused}
-use Rattle.session_ops.specs.Work.{Work, Running, is_in, is_idle, no_work, with_number, swept, failed_ancestor, running_eval, is_eval, stored, begun, may_start}
-use Rattle.session_ops.specs.State.{State, Job, jobs, jobs_after, is_job, is_other_job, Known, Taken, Misfit, state, after, after_call, revision, taken_by, reply, queue_reply, queue_reply_by, kind_reply, least, least_among, least_floor, floor, delta_reply, misfit, judged_by, knows_all, moved_source, Legal, opening}
+use Rattle.session_ops.specs.Work.{Work, Running, is_in, no_work, with_number, swept, failed_ancestor, is_eval}
+use Rattle.session_ops.specs.State.{State, Job, jobs, is_job, is_other_job, Known, Taken, Misfit, state, after, after_call, revision, taken_by, reply, queue_reply, queue_reply_by, kind_reply, least, least_among, least_floor, floor, delta_reply, misfit, judged_by, knows_all, moved_source, Legal, opening}
 use Rattle.session_ops.proofs.Growing.{state-append, jobs-append, legal-append}
 use Rattle.session_ops.proofs.Sweeps.{HasHope, none-hope, swept-same}
 use Rattle.session_ops.proofs.Lists.{all-weaker}
@@ -33,13 +32,12 @@ use Rattle.session_ops.proofs.Books.{HasSectionCells}
 use Rattle.session_ops.proofs.Ready.{found-wanted, notebook-kinds}
 use Rattle.session_ops.proofs.Lanes.{wanted-lane}
 use Rattle.main_lane.specs.declared.lane.MainLane.{MainLane}
-use Rattle.main_lane.specs.declared.lane.Evaluated.{Evaluated}
-use Rattle.main_lane.specs.Tracks.{Tracks, HasTried, HasEvaluated, IsHopefulOne}
+use Rattle.main_lane.specs.Tracks.{Tracks, IsHopefulOne}
 use Rattle.driver.specs.Headline.{AllAnswered, IsFollowed, IsAnsweredNext}
 use Rattle.session_ops.proofs.Sources.{ChangesOne, with-one}
 use Rattle.transcript.specs.Texts.{rev_in}
 use Rattle.driver.specs.Revisions.{first_revs, raised}
-use Rattle.driver.specs.Session.{IsSession, Holds, IsKnownBelow, cell_of, entry_of, HasAnswered, refusal_for, refusal_if, cell_refusal, refused_by, start_of, answer_of, AreEvaluationsBy, HasGoneOn, HasSettled}
+use Rattle.driver.specs.Session.{IsSession, Holds, IsKnownBelow, cell_of, entry_of, HasAnswered, refusal_for, refusal_if, cell_refusal, refused_by}
 use Rattle.driver.specs.declared.session.Session.{Session}
 use Rattle.driver.proofs.Once.{cells-resourced, taken-append}
 

@@ -1,22 +1,22 @@
 -- What evaluators do leaves the player where it stands.
-use Rattle.std.proofs.Common.{◌≡◌, ℕ, ◌+◌, ◌<◌, ◌≤◌, true, false, if◌then◌else◌, List, [], ◌∷◌, ◌++◌, length, map, Option, Some, None, codes, refl, sym, ap, subst, ◌∙◌, arith, append_assoc, inl, inr}
+use Rattle.std.proofs.Common.{◌≡◌, ℕ, ◌≤◌, false, if◌then◌else◌, List, [], ◌∷◌, ◌++◌, length, map, Option, Some, None, codes, refl, sym, ap, subst, ◌∙◌, arith, append_assoc, inr}
 use Rattle.std.proofs.lemmas.Bool.Decides.{nat_tests}
 use Rattle.std.proofs.lemmas.List.{length-append, append-nil}
 use Rattle.notebook.specs.declared.parts.Parts.{Parts}
 use Rattle.session_ops.specs.declared.entry.Entry.{Entry}
-use Rattle.session_ops.specs.Work.{Work, is_idle}
+use Rattle.session_ops.specs.Work.{Work}
 use Rattle.main_lane.specs.declared.lane.MainLane.{MainLane}
 use Rattle.main_lane.specs.Tracks.{Tracks}
-use Rattle.session_ops.specs.State.{State, state, state_from, entries_by, opening}
+use Rattle.session_ops.specs.State.{state, entries_by, opening}
 use Rattle.client_sync.specs.Client.{Client as Holder}
 use Rattle.script.specs.declared.line.ScriptLine.TheVariants.{Settle, Cells}
 use Rattle.transcript.specs.Texts.{as_text}
-use Rattle.driver.specs.Turns.{Turn, Made, Looked, turns_from, AreMarks}
-use Rattle.driver.specs.Player.{Game, Stage, Marked, say, states_at, settled}
+use Rattle.driver.specs.Turns.{Made, Looked, turns_from, AreMarks}
+use Rattle.driver.specs.Player.{Game, Stage, say, states_at}
 use Rattle.driver.specs.Headline.{AllOfRun, call_of}
 use Rattle.driver.specs.Statuses.{status_lines}
 use Rattle.driver.specs.Session.{IsSession, AreEvaluationsBy, HasGoneOn, HasSettled}
-use Rattle.driver.specs.Holder.{Mirrors, Carries, IsBehind, AreEvaluations}
+use Rattle.driver.specs.Holder.{Mirrors, AreEvaluations}
 use Rattle.driver.specs.Standing.{StandsFor, Stands, HasPlayed}
 use Rattle.driver.specs.declared.session.Session.{Session}
 use Rattle.driver.specs.declared.client.Client.{Client}

@@ -1,4 +1,4 @@
-use Rattle.std.proofs.Common.{◌++◌, ap, ◌∙◌, refl, subst, sym, codes, string_bytes}
+use Rattle.std.proofs.Common.{◌++◌, ap, ◌∙◌, refl, codes, string_bytes}
 use Rattle.transcript.specs.Texts.{as_text, book_lines, rev_in}
 use Rattle.driver.proofs.SettlingLaws.{states-printed}
 use Rattle.driver.proofs.PlayingLaws.{end-printed}

@@ -1,4 +1,3 @@
-use Rattle.std.proofs.Common.{refl}
 use Rattle.driver.proofs.AnswerLaws.{on-ok}
 use Rattle.driver.proofs.PlayingLaws.{fresh-session, fresh-played, fresh-cut, fresh-failed}
 use Rattle.driver.proofs.play.play_all.Goals as goal

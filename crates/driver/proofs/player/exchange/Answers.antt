@@ -1,4 +1,4 @@
-use Rattle.std.proofs.Common.{◌∙◌, ap, string_bytes}
+use Rattle.std.proofs.Common.{◌∙◌}
 use Rattle.driver.proofs.SendingLaws.{exchanged}
 use Rattle.driver.proofs.player.exchange.Goals as goal
 

@@ -1,4 +1,4 @@
-use Rattle.std.proofs.Common.{refl, ◌∙◌, arith, string_bytes}
+use Rattle.std.proofs.Common.{refl, ◌∙◌, arith}
 use Rattle.driver.proofs.SendingLaws.{sent-none, sent-next, sent-end}
 use Rattle.driver.proofs.player.send_all.Goals as goal
 

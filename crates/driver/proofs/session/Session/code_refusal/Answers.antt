@@ -1,4 +1,4 @@
-use Rattle.std.proofs.Common.{◌≡◌, ◌≢◌, rules, sym, ◌∙◌, ap}
+use Rattle.std.proofs.Common.{◌≢◌, rules, sym, ◌∙◌, ap}
 use Rattle.notebook.specs.declared.parts.Kind.TheVariants.{Markdown}
 use Rattle.session_ops.specs.State.{queue_reply_by}
 use Rattle.driver.specs.Session.{refused_by}
