@@ -1,8 +1,11 @@
 -- From the parts' answers to the program's.
-use Rattle.std.proofs.Common.{◌≡◌, ℕ, ◌≤◌, ◌<◌, length, get_or, OnOk, List, [], ◌∷◌, map, Option, Some, None, Result, Ok, Err, refl, sym, ap, subst, ◌∙◌, arith}
+use Rattle.std.proofs.Common.{◌≡◌, ◌≢◌, ℕ, ◌≤◌, ◌<◌, length, get_or, OnOk, List, [], ◌∷◌, map, Option, Some, None, Result, Ok, Err, refl, sym, ap, subst, ◌∙◌, arith}
 use Rattle.book_outside.specs.Outside.{Rose, GivesFront}
 use Rattle.livemd_read.specs.declared.types.Read.{Read}
-use Rattle.livemd_read.specs.Reads.{items_of}
+use Rattle.livemd_read.specs.declared.types.BookError.{BookError}
+use Rattle.livemd_read.specs.declared.types.BookError.TheVariants.{OutOfMemory as BookMemory}
+use Rattle.livemd_read.specs.Reads.{IsAccepted, IsBookCause, items_of}
+use Rattle.livemd_read.proofs.Causes.{accepted_cause}
 use Rattle.livemd_read.specs.Book.{notices_of}
 use Rattle.livemd_read.specs.Items.{Item, Name, Section, Setup, Code, Markdown, Blank}
 use Rattle.script.specs.declared.content.Content.{Content}
@@ -28,9 +31,13 @@ book-ended words held book script sf sf' kf kf' w (ScriptRefused why) form h = a
 book-ended words held book script sf sf' kf kf' w SinkFailed form h = absurd h
 book-ended words held book script sf sf' kf kf' w OutOfMemory form h = refl
 
+-- a book that is refused is not accepted: no status but 2, 3 and 7 can come
+pub refused-not-accepted : (bytes : List ℕ) (why : BookError) → IsBookCause bytes why → why ≢ BookMemory → ¬ IsAccepted bytes
+refused-not-accepted bytes why cause named accepted = named (accepted_cause bytes why accepted cause)
+
 -- a book that was read
 pub book-read : (words : List (List ℕ)) (held : Option (List (List ℕ × List ℕ))) (book script : List ℕ) (sf sf' : ℕ) (r : Read) → IsPlay words book script → IsBookAnswer held book sf sf' (Ok r) → HasReadBook words held script r
-book-read words held book script sf sf' r form h = record { accepted = record { read = record { book = book; script = script; form = form; bytes = h.0; front = h.1.0 }; notebook = r.notebook; notices = r.notices; reads = h.1.1 }; script_name = refl; notebook = refl; notices = refl }
+book-read words held book script sf sf' r form h = record { accepted = record { read = record { book = book; script = script; form = form; bytes = h.0; front = h.1.0 }; accepted = h.1.1.0; notebook = r.notebook; notices = r.notices; reads = h.1.1.1 }; script_name = refl; notebook = refl; notices = refl }
 
 script-front : (held : Option (List (List ℕ × List ℕ))) (a b bytes : List ℕ) → a ≡ b → GivesFront held b most_bytes bytes → GivesFront held a most_bytes bytes
 script-front held a b bytes e h = subst (λ n. GivesFront held n most_bytes bytes) (sym e) h

@@ -2,7 +2,8 @@ pub mod AnswerLaws
 pub mod ClientLaws
 pub mod EvaluationLaws
 pub mod Frame
-pub mod Holding
+pub mod Fronts
+mod Holding
 pub mod Once
 pub mod PlayerLaws
 pub mod PlayingLaws

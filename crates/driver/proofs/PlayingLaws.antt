@@ -8,7 +8,6 @@ use Rattle.session_ops.specs.declared.entry.Entry.{Entry}
 use Rattle.session_ops.specs.declared.entry.Op.{Op}
 use Rattle.session_ops.specs.declared.entry.Op.TheVariants.{Join as Joins, Delta, Queue}
 use Rattle.session_ops.specs.State.{State, state, revision, entries_by}
-use Rattle.session_ops.proofs.Shown.{evaluated-shows}
 use Rattle.std.proofs.lemmas.Bool.Decides.{nat_tests}
 use Rattle.delta.specs.Moves.{text_after}
 use Rattle.session_ops.specs.State.{misfit}
@@ -35,6 +34,7 @@ use Rattle.driver.specs.declared.player.Player.{Player}
 use Rattle.driver.proofs.Frame.{with_more, IsMore, play-more}
 use Rattle.driver.proofs.Holding.{holds-all}
 use Rattle.driver.proofs.Once.{all-grown}
+use Rattle.driver.proofs.Fronts.{fronts-show}
 use Rattle.driver.proofs.PlayerLaws.{agree-all}
 use Rattle.driver.proofs.ClientLaws.{behind-book}
 use Rattle.driver.proofs.SettlingLaws.{looked-stands, looked-turns}
@@ -221,7 +221,7 @@ all-played n0 content p0 p1 p2 w0 w1 w2 d eh em x e w =
           calls = end.asked;
           clients = clients-of n0 h p2.client x.stage.clients end.clients;
           once = all-grown n0 h d;
-          evaluated = evaluated-shows n0 h end.session.legal;
+          evaluated = fronts-show n0 h end.session.legal;
         },
         subst (λ z. AppendsAll w0 z w2) (ap (λ z. z ++ as_text (end_lines (state n0 h))) (sym x.said)) (written-more w0 w1 w2 x.piece (as_text (end_lines (state n0 h))) x.written w),
       ),

@@ -3,7 +3,7 @@ use Rattle.std.specs.Prelude.{◌≡◌, ◌≢◌, ℕ, List, Option, Some, Non
 use Rattle.book_outside.specs.Outside.{Rose, GivesFront}
 use Rattle.livemd_read.specs.declared.types.Read.{Read}
 use Rattle.livemd_read.specs.declared.types.BookError.TheVariants.{OutOfMemory as BookMemory}
-use Rattle.livemd_read.specs.Reads.{Reads, IsBookCause}
+use Rattle.livemd_read.specs.Reads.{Reads, IsAccepted, IsBookCause}
 use Rattle.script.specs.declared.content.Content.{Content}
 use Rattle.script.specs.declared.error.ScriptError.TheVariants.{OutOfMemory as ScriptMemory}
 use Rattle.script.specs.Script.{IsScriptOf, IsScriptCause}
@@ -39,7 +39,7 @@ IsBookFault bytes SinkFailed = ⊥
 IsBookFault bytes OutOfMemory = Unit {0}
 
 abbrev pub BytesAreBook : List ℕ → Result Read RunFault → Type 0
-BytesAreBook bytes (Ok r) = Reads bytes r.notebook r.notices
+BytesAreBook bytes (Ok r) = IsAccepted bytes × Reads bytes r.notebook r.notices
 BytesAreBook bytes (Err fault) = IsBookFault bytes fault
 
 -- why bytes are no script
@@ -61,7 +61,7 @@ abbrev pub WereRead : Option (List (List ℕ × List ℕ)) → List ℕ → (Lis
 WereRead held name P = (bytes : List ℕ) × (GivesFront held name most_bytes bytes × P bytes)
 
 abbrev pub IsBookAnswer : Option (List (List ℕ × List ℕ)) → List ℕ → ℕ → ℕ → Result Read RunFault → Type 0
-IsBookAnswer held name sf sf' (Ok r) = WereRead held name (λ bytes. Reads bytes r.notebook r.notices)
+IsBookAnswer held name sf sf' (Ok r) = WereRead held name (λ bytes. IsAccepted bytes × Reads bytes r.notebook r.notices)
 IsBookAnswer held name sf sf' (Err Usage) = ⊥
 IsBookAnswer held name sf sf' (Err BookUnread) = Rose sf sf'
 IsBookAnswer held name sf sf' (Err (BookRefused why)) = WereRead held name (λ bytes. IsBookCause bytes why × (why ≢ BookMemory))

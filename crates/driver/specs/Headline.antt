@@ -1,5 +1,5 @@
 -- What a run of a script says: it prints the transcript of one actual history.
-use Rattle.std.specs.Prelude.{◌≡◌, ℕ, ◌+◌, ◌<◌, ◌⊎◌, true, List, [], ◌∷◌, ◌++◌, length, map, Option, Some, None}
+use Rattle.std.specs.Prelude.{◌≡◌, ℕ, ◌+◌, ◌<◌, ◌⊎◌, true, List, [], ◌∷◌, ◌++◌, length, map, take, Option, Some, None}
 use Rattle.delta.specs.declared.Step.{Step}
 use Rattle.delta.specs.Moves.{text_after}
 use Rattle.notebook.specs.declared.parts.Cell.{Cell}
@@ -65,7 +65,7 @@ abbrev pub AllGrown : State → List Cell → Type 0
 AllGrown s [] = Unit {0}
 AllGrown s (c ∷ cs) = (c.source ≡ text_after_all (first_source c.id s.began) (taken_by c.id s.taken)) × AllGrown s cs
 
--- each cell that is evaluated shows what one thread gives along its present path
+-- each cell that is evaluated shows what one thread gives along the path that it then has
 abbrev pub AllShow : State → Type 0
 AllShow s = (cell : ℕ) (present : List Passed) (f : Finished) → path s.book cell ≡ Some present → last_finished s.work cell ≡ Some f → is_evaluated s.book s.work cell ≡ true → ShowsAlong present f.shown
 
@@ -96,7 +96,7 @@ pub record IsHistory (n0 : Parts) (workers : ℕ) (h : List Entry) (marks : List
   pub others : AllOfRun workers h
   pub answered : AllAnswered h
 
--- a run that was played to its end: what is printed; the stage at the end, whose calls are the player's entries in order, each once (so each posted message has one entry); its clients; each source, with each accepted delta in it once; and what each evaluated cell shows
+-- a run that was played to its end: what is printed; the stage at the end, whose calls are the player's entries in order, each once (so each posted message has one entry); its clients; each source, with each accepted delta in it once; and what each evaluated cell shows after each front of the history
 pub record IsPlayed (n0 : Parts) (notices : List (List ℕ)) (script : Content) (workers : ℕ) (h : List Entry) (marks : List ℕ) (text : List ℕ) : Type 0 where
   pub history : IsHistory n0 workers h marks
   pub printed : transcript n0 notices script h marks ≡ Some text
@@ -105,4 +105,4 @@ pub record IsPlayed (n0 : Parts) (notices : List (List ℕ)) (script : Content) 
   pub calls : stage.asked ≡ map call_of (entries_by h 0)
   pub clients : AllClients n0 h stage.clients
   pub once : AllGrown (state n0 h) (cells (state n0 h).book)
-  pub evaluated : AllShow (state n0 h)
+  pub evaluated : (k : ℕ) → AllShow (state n0 (take k h))

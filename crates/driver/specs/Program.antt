@@ -8,7 +8,7 @@ use Rattle.livemd_read.specs.declared.types.NoticeKind.{NoticeKind}
 use Rattle.livemd_read.specs.declared.types.NoticeKind.TheVariants.{BadBranch, Misplaced}
 use Rattle.livemd_read.specs.declared.types.BookError.{BookError}
 use Rattle.livemd_read.specs.declared.types.BookError.TheVariants.{OutOfMemory as BookMemory}
-use Rattle.livemd_read.specs.Reads.{Reads, IsBookCause}
+use Rattle.livemd_read.specs.Reads.{Reads, IsAccepted, IsBookCause}
 use Rattle.script.specs.declared.content.Content.{Content}
 use Rattle.script.specs.declared.error.ScriptError.{ScriptError}
 use Rattle.script.specs.declared.error.ScriptError.TheVariants.{OutOfMemory as ScriptMemory}
@@ -53,9 +53,10 @@ pub record BookIsRead (words : List (List ℕ)) (held : Option (List (List ℕ �
   pub bytes : List ℕ
   pub front : GivesFront held book most_bytes bytes
 
--- the bytes of the book are a notebook
+-- the bytes of the book are a notebook, and nothing refuses them
 pub record BookIsAccepted (words : List (List ℕ)) (held : Option (List (List ℕ × List ℕ))) : Type 0 where
   pub read : BookIsRead words held
+  pub accepted : IsAccepted read.bytes
   pub notebook : Parts
   pub notices : List Notice
   pub reads : Reads read.bytes notebook notices

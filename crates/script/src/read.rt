@@ -17,9 +17,10 @@ const MAX_BYTES: usize = 8_388_608;
 ///
 /// It answers `TooLarge` exactly where there are more than 8,388,608 bytes, and else `At` exactly
 /// at the first line, counted from 1, that isn't UTF-8 or isn't one of the lines `join NAME`,
-/// `edit NAME CELL DELTA`, `sync` and `show NAME` in its form and at its place: `join` is the first
-/// line that isn't skipped and stands nowhere else, the names are all that of `join`, and a `sync`
-/// stands between two edits. The rules are this project's own.
+/// `edit NAME CELL DELTA`, `post NAME queue CELL`, `sync`, `show NAME`, `settle` and `cells` in its
+/// form and at its place: `join` is the first line that isn't skipped and stands nowhere else, the
+/// names are all that of `join`, and a `sync` stands between two edits. The rules are this
+/// project's own.
 pub fn read_script(alloc: Global, bytes: &[u8]) -> Result<Script, ScriptError>
     ensures { MatchResult result (IsScriptOf bytes.now) (IsScriptCause bytes.now) }
 {
