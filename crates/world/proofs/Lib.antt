@@ -1,0 +1,3 @@
+pub mod Clients
+pub mod Heard
+pub mod Standing

@@ -1,0 +1,28 @@
+-- What holds in a world, whatever has happened.
+use Rattle.std.specs.Prelude.{◌≡◌, ◌≢◌, ℕ, List, ◌++◌, map, Some}
+use Rattle.std.specs.List.{AllByRecursion}
+use Rattle.session_ops.specs.declared.entry.Op.{Op}
+use Rattle.session_ops.specs.declared.entry.Call.TheVariants.{Client as ByClient}
+use Rattle.session_ops.specs.declared.entry.Refusal.TheVariants.{NotJoined}
+use Rattle.session_ops.specs.declared.entry.Reply.TheVariants.{Refused}
+use Rattle.session_ops.specs.declared.entry.Entry.{Entry}
+use Rattle.session_ops.specs.State.{Legal, state, reply}
+use Rattle.client_sync.specs.Client.{Client, client_of}
+use Rattle.world.specs.World.{World}
+
+abbrev pub number_of : Client → ℕ
+number_of c = c.number
+
+-- a client has received a front of the history
+abbrev pub IsBehind : List Entry → Client → Type 0
+IsBehind h c = (later : List Entry) × (h ≡ c.seen ++ later)
+
+-- the history is legal, those that joined are those that hold a client, in one order, and each client has received a front of the history
+pub record IsWhole (w : World) : Type 0 where
+  pub legal : Legal w.opening w.history
+  pub joined : (state w.opening w.history).joined ≡ map number_of w.clients
+  pub behind : AllByRecursion (IsBehind w.history) w.clients
+
+-- no message of a client is answered as a stranger's
+abbrev pub AreHeard : World → Type 0
+AreHeard w = (n : ℕ) (c : Client) (op : Op) → client_of n w.clients ≡ Some c → reply (state w.opening w.history) (ByClient c.number op) ≢ Refused NotJoined
