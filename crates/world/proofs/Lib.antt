@@ -1,3 +1,4 @@
 pub mod Clients
 pub mod Heard
+pub mod Moving
 pub mod Standing

@@ -1,0 +1,43 @@
+-- What entries did to a cell.
+use Rattle.std.specs.Prelude.{◌≡◌, ℕ, ◌==◌, ◌&&◌, Bool, false, if◌then◌else◌, List, [], ◌∷◌, ◌++◌}
+use Rattle.std.specs.List.{AllByRecursion}
+use Rattle.delta.specs.declared.Step.{Step}
+use Rattle.delta.specs.Moves.{FitsText, text_after}
+use Rattle.session_ops.specs.declared.entry.Op.TheVariants.{Delta}
+use Rattle.session_ops.specs.declared.entry.Call.{Call}
+use Rattle.session_ops.specs.declared.entry.Call.TheVariants.{Client as ByClient}
+use Rattle.session_ops.specs.declared.entry.Reply.{Reply}
+use Rattle.session_ops.specs.declared.entry.Reply.TheVariants.{Applied}
+use Rattle.session_ops.specs.declared.entry.Entry.{Entry}
+
+-- the delta that a call applied to a cell, if it did
+abbrev pub applied_by : ℕ → Call → Reply → List (List Step)
+applied_by cell (ByClient n (Delta k base d)) (Applied rev x) = if k == cell then x ∷ [] else []
+applied_by cell call answer = []
+
+-- the deltas that entries applied to a cell, in order
+abbrev pub applied_in : ℕ → List Entry → List (List Step)
+applied_in cell [] = []
+applied_in cell (e ∷ es) = applied_by cell e.call e.reply ++ applied_in cell es
+
+-- whether a call applied a delta of the number to a cell
+abbrev pub is_own_call : ℕ → ℕ → Call → Reply → Bool
+is_own_call n cell (ByClient m (Delta k base d)) (Applied rev x) = (m == n) && (k == cell)
+is_own_call n cell call answer = false
+
+abbrev pub is_own : ℕ → ℕ → Entry → Bool
+is_own n cell e = is_own_call n cell e.call e.reply
+
+-- none of the entries applied a delta of the number to the cell
+abbrev pub HasNoOwn : ℕ → ℕ → List Entry → Type 0
+HasNoOwn n cell es = AllByRecursion (λ e. is_own n cell e ≡ false) es
+
+-- a text after some deltas, one after the other
+abbrev pub text_after_each : List ℕ → List (List Step) → List ℕ
+text_after_each t [] = t
+text_after_each t (x ∷ xs) = text_after_each (text_after x t) xs
+
+-- each of these deltas fits in its turn
+abbrev pub FitInTurn : List ℕ → List (List Step) → Type 0
+FitInTurn t [] = Unit {0}
+FitInTurn t (x ∷ xs) = FitsText x t × FitInTurn (text_after x t) xs
