@@ -1,10 +1,10 @@
 -- What entries make of a cell's source, its deltas and what is known of it.
 use Rattle.std.proofs.Common.{◌≡◌, ℕ, ◌+◌, ◌≤◌, ◌<◌, ◌==◌, Bool, true, false, if◌then◌else◌, List, [], ◌∷◌, ◌++◌, length, drop, map, Option, Some, None, refl, sym, ap, subst, ◌∙◌, arith, append_assoc}
-use Rattle.std.specs.Prelude.{◌&&◌, nat_lt, nat_le, max, find}
+use Rattle.std.specs.Prelude.{◌&&◌, nat_lt, nat_le, max, min, find}
 use Rattle.std.specs.List.{AllByRecursion, flat_map}
-use Rattle.std.proofs.lemmas.Bool.{eqb-true}
+use Rattle.std.proofs.lemmas.Bool.{eqb-true, and_parts}
 use Rattle.std.proofs.lemmas.Bool.Decides.{nat_tests}
-use Rattle.std.proofs.lemmas.List.{append-nil}
+use Rattle.std.proofs.lemmas.List.{append-nil, length-append}
 use Rattle.utf16_text.specs.Units.{unit_count}
 use Rattle.delta.specs.declared.Step.{Step}
 use Rattle.delta.specs.Steps.{reach_of, broken_cut}
@@ -23,9 +23,11 @@ use Rattle.session_ops.specs.declared.entry.Refusal.{Refusal}
 use Rattle.session_ops.specs.declared.entry.Reply.{Reply}
 use Rattle.session_ops.specs.declared.entry.Reply.TheVariants.{Accepted, Applied, Started, Stored, Late, Refused}
 use Rattle.session_ops.specs.declared.entry.Entry.{Entry}
-use Rattle.session_ops.specs.State.{State, Job, Taken, Misfit, Past, Splits, after, after_call, state_from, taken_by, revision, least, misfit, split_misfit, moved_source, reply, delta_reply, judged_by, refusal_of, HasReplies, jobs_after}
+use Rattle.session_ops.specs.State.{State, Job, Taken, Known, Legal, opening, state, jobs_from, floor, least_floor, least_among, knows_all, Misfit, Past, Splits, after, after_call, state_from, taken_by, revision, least, misfit, split_misfit, moved_source, reply, delta_reply, judged_by, refusal_of, HasReplies, jobs_after}
 use Rattle.session_ops.specs.Work.{is_in}
+use Rattle.session_ops.proofs.Lists.{all-append, all-weaker}
 use Rattle.world.specs.Applied.{applied_by, applied_in, text_after_each, FitInTurn}
+use Rattle.world.specs.Waiting.{HasSource}
 
 -- a delta fits a text where nothing keeps it from it
 split-none : (o : Option ℕ) → split_misfit o ≡ None → o ≡ None
@@ -88,12 +90,6 @@ found-number k (d ∷ cs) c e =
     [ true ↦ λ t h. let same : d ≡ c = cc h in subst (λ x. x.id ≡ k) same (eqb-true d.id k t) | false ↦ λ t h. found-number k cs c h ]
     refl
     e
-
--- the cell of a number with this source
-pub record HasSource (n : Parts) (k : ℕ) (t : List ℕ) : Type 0 where
-  pub own : Cell
-  pub there : found k (cells n) ≡ Some own
-  pub source : own.source ≡ t
 
 moved-one : (j k : ℕ) (x : List Step) (c : Cell) → c.id ≡ k → moved_source j x c ≡ text_after_each c.source (if j == k then x ∷ [] else [])
 moved-one j k x c e =
@@ -222,3 +218,91 @@ from-fits s js [] k t h r = tt
 from-fits s js (e ∷ es) k t h r =
     turn-append t (applied_by k e.call e.reply) (applied_in k es) (call-fits s e.call e.reply k t h r.1.0)
     (from-fits (after s e) (jobs_after s js e.by e.call e.reply) es k (text_after_each t (applied_by k e.call e.reply)) (after-source s e k t h) r.1.1)
+
+-- entries one after the other
+pub from-more : (s : State) (h es : List Entry) → state_from s (h ++ es) ≡ state_from (state_from s h) es
+from-more s [] es = refl
+from-more s (e ∷ h) es = from-more (after s e) h es
+
+pub rest-replies : (s : State) (js : List Job) (h es : List Entry) → HasReplies s js (h ++ es) → HasReplies (state_from s h) (jobs_from s js h) es
+rest-replies s js [] es r = r
+rest-replies s js (e ∷ h) es r = rest-replies (after s e) (jobs_after s js e.by e.call e.reply) h es r.1.1
+
+-- what is known of a client goes no further than the cells' revisions
+abbrev IsKnownUp : State → Known → Type 0
+IsKnownUp s m = m.rev ≤ revision s m.cell
+
+abbrev pub IsKnownWell : State → Type 0
+IsKnownWell s = AllByRecursion (IsKnownUp s) s.known
+
+pub grown-revision : (s : State) (e : Entry) (k : ℕ) → revision (after s e) k ≡ revision s k + length (applied_by k e.call e.reply)
+grown-revision s e k = ap length (after-taken s e k) ∙ length-append (taken_by k s.taken) (applied_by k e.call e.reply)
+
+call-revision : (s : State) (call : Call) (answer : Reply) (k : ℕ) → revision (after_call s call answer) k ≡ revision s k + length (applied_by k call answer)
+call-revision s call answer k = ap length (call-taken s call answer k) ∙ length-append (taken_by k s.taken) (applied_by k call answer)
+
+up-more : (s : State) (call : Call) (answer : Reply) (m : Known) → IsKnownUp s m → IsKnownUp (after_call s call answer) m
+up-more s call answer m le = rw (call-revision s call answer m.cell) (omega (arith, le))
+
+all-up : (s : State) (call : Call) (answer : Reply) → IsKnownWell s → AllByRecursion (IsKnownUp (after_call s call answer)) s.known
+all-up s call answer well = all-weaker (IsKnownUp s) (IsKnownUp (after_call s call answer)) (λ m le. up-more s call answer m le) s.known well
+
+knows-up : (s t : State) (n : ℕ) (cs : List Cell) → ((k : ℕ) → revision t k ≡ revision s k) → AllByRecursion (IsKnownUp t) (knows_all s n cs)
+knows-up s t n [] same = tt
+knows-up s t n (c ∷ cs) same = (rw (same c.id) (omega arith), knows-up s t n cs same)
+
+call-known : (s : State) (call : Call) (answer : Reply) → answer ≡ reply s call → IsKnownWell s → IsKnownWell (after_call s call answer)
+call-known s (ByClient n (Delta j base d)) (Applied rev x) e well =
+    let is : IsTaken s j rev x = applied-taken s n j base rev d x (sym e) in
+    let t : State = after_call s (ByClient n (Delta j base d)) (Applied rev x) in
+    let one : length (if j == j then x ∷ [] else []) ≡ 1 = ap (λ b. length (if b then x ∷ [] else [])) {y = true} (grind (arith, nat_tests)) in
+    let up : rev ≤ revision t j = rw (call-revision s (ByClient n (Delta j base d)) (Applied rev x) j, one) (omega (arith, is.next)) in
+    all-append (IsKnownUp t) s.known (record { client = n; cell = j; rev = rev } ∷ []) (all-up s (ByClient n (Delta j base d)) (Applied rev x) well) (up, tt)
+call-known s (ByClient n Join) Accepted e well =
+    let t : State = after_call s (ByClient n Join) Accepted in
+    all-append (IsKnownUp t) s.known (knows_all s n (cells s.book)) (all-up s (ByClient n Join) Accepted well) (knows-up s t n (cells s.book) (λ k. refl))
+call-known s (ByClient n (Queue cell)) Accepted e well = well
+call-known s (Start lane) (Started eval cell) e well = well
+call-known s (Respond eval shown) (Stored i) e well = well
+call-known s call answer e well = well
+
+from-known : (s : State) (js : List Job) (es : List Entry) → HasReplies s js es → IsKnownWell s → IsKnownWell (state_from s es)
+from-known s js [] r well = well
+from-known s js (e ∷ es) r well = from-known (after s e) (jobs_after s js e.by e.call e.reply) es r.1.1 (call-known s e.call e.reply r.1.0 well)
+
+floor-up : (s : State) (n k : ℕ) (ms : List Known) → AllByRecursion (IsKnownUp s) ms → floor n k ms ≤ revision s k
+floor-up s n k [] all = omega arith
+floor-up s n k (m ∷ ms) all =
+    let rest : floor n k ms ≤ revision s k = floor-up s n k ms all.1 in
+    elim ((m.client == n) && (m.cell == k))
+    as (λ b. ((m.client == n) && (m.cell == k)) ≡ b → (if b then max m.rev (floor n k ms) else floor n k ms) ≤ revision s k)
+    [ true ↦ λ t. let same : m.cell ≡ k = eqb-true m.cell k ((and_parts (m.client == n) (m.cell == k) t).1) in grind (arith, rest, subst (λ i. m.rev ≤ revision s i) same all.0) | false ↦ λ t. rest ]
+    refl
+
+-- in a legal history, a client's floor for a cell is at most the cell's revision
+pub floor-within : (n0 : Parts) (h : List Entry) (n k : ℕ) → Legal n0 h → floor n k (state n0 h).known ≤ revision (state n0 h) k
+floor-within n0 h n k l = floor-up (state n0 h) n k (state n0 h).known (from-known (opening n0) [] h l.replies tt)
+
+-- the least floor of those who have joined is at most each one's
+least-floor : (k : ℕ) (known : List Known) (n : ℕ) (ms : List ℕ) (m : ℕ) → is_in m (n ∷ ms) ≡ true → least_floor k known n ms ≤ floor m k known
+least-floor k known n [] m e =
+    elim (n == m)
+    as (λ b. (n == m) ≡ b → (if b then true else false) ≡ true → floor n k known ≤ floor m k known)
+    [ true ↦ λ t h. subst (λ i. floor n k known ≤ floor i k known) (eqb-true n m t) (omega arith) | false ↦ λ t h. absurd (cc h) ]
+    refl
+    e
+least-floor k known n (i ∷ ms) m e =
+    elim (n == m)
+    as (λ b. (n == m) ≡ b → (if b then true else is_in m (i ∷ ms)) ≡ true → min (floor n k known) (least_floor k known i ms) ≤ floor m k known) [
+      | true ↦ λ t h. subst (λ j. min (floor n k known) (least_floor k known i ms) ≤ floor j k known) (eqb-true n m t) (grind arith)
+      | false ↦ λ t h. let less : least_floor k known i ms ≤ floor m k known = least-floor k known i ms m h in grind (arith, less)
+    ]
+    refl
+    e
+
+least-of : (s : State) (k n : ℕ) (ns : List ℕ) → is_in n ns ≡ true → least_among s k ns ≤ floor n k s.known
+least-of s k n [] e = absurd (cc e)
+least-of s k n (m ∷ ms) e = least-floor k s.known m ms n e
+
+pub least-within : (s : State) (k n : ℕ) → is_in n s.joined ≡ true → least s k ≤ floor n k s.known
+least-within s k n e = least-of s k n s.joined e

@@ -1,3 +1,4 @@
 pub mod Applied
 pub mod Claims
+pub mod Waiting
 pub mod World
