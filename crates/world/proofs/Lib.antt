@@ -2,4 +2,6 @@ pub mod Clients
 pub mod Heard
 pub mod Keeping
 pub mod Moving
+pub mod Pendings
+pub mod Receiving
 pub mod Standing

@@ -189,7 +189,7 @@ applied-taken s n j base rev d x e =
     [ true ↦ λ k. cell-taken s j base rev d x (found j (cells s.book)) refl k | false ↦ λ k. absurd (cc k) ]
     e
 
-one-source : (n : Parts) (k : ℕ) (t : List ℕ) (c : Cell) → HasSource n k t → found k (cells n) ≡ Some c → c.source ≡ t
+pub one-source : (n : Parts) (k : ℕ) (t : List ℕ) (c : Cell) → HasSource n k t → found k (cells n) ≡ Some c → c.source ≡ t
 one-source n k t c h e = let same : h.own ≡ c = cc (h.there, e) in subst (λ x. x.source ≡ t) same h.source
 
 call-fits : (s : State) (call : Call) (answer : Reply) (k : ℕ) (t : List ℕ) → HasSource s.book k t → answer ≡ reply s call → FitInTurn t (applied_by k call answer)

@@ -1,0 +1,79 @@
+-- The pending edits of a client, and the messages in its outbox, by cells.
+use Rattle.std.proofs.Common.{◌≡◌, ℕ, ◌==◌, Bool, true, false, if◌then◌else◌, List, [], ◌∷◌, ◌++◌, Option, Some, None, refl, sym, ap, ◌∙◌, arith}
+use Rattle.std.proofs.lemmas.Bool.Decides.{nat_tests}
+use Rattle.std.proofs.lemmas.Bool.{eq-eqb}
+use Rattle.delta.specs.declared.Step.{Step}
+use Rattle.session_ops.specs.declared.entry.Op.{Op}
+use Rattle.session_ops.specs.declared.entry.Op.TheVariants.{Join, Delta, Queue}
+use Rattle.client_sync.specs.Client.{Pending, pending_of, all_moved, moved, without}
+use Rattle.world.specs.Waiting.{Message, messages_for}
+use Rattle.world.proofs.Keeping.{shifted, shifted_option}
+
+pub shifted-same : (j : ℕ) (x : List Step) (ps : List Pending) → pending_of j (all_moved j x ps) ≡ shifted_option x (pending_of j ps)
+shifted-same j x [] = refl
+shifted-same j x (p ∷ ps) =
+    elim (p.cell == j)
+    as (λ b. (p.cell == j) ≡ b → (if (if b then shifted x p else p).cell == j then Some (if b then shifted x p else p) else pending_of j (all_moved j x ps)) ≡ shifted_option x (if b then Some p else pending_of j ps)) [
+      | true ↦ λ t. ap (λ c. if c then Some (shifted x p) else pending_of j (all_moved j x ps)) t
+      | false ↦ λ t. ap (λ c. if c then Some p else pending_of j (all_moved j x ps)) t ∙ shifted-same j x ps
+    ]
+    refl
+
+pub shifted-other : (j k : ℕ) (x : List Step) (ps : List Pending) → (j == k) ≡ false → pending_of k (all_moved j x ps) ≡ pending_of k ps
+shifted-other j k x [] ne = refl
+shifted-other j k x (p ∷ ps) ne =
+    elim (p.cell == j)
+    as (λ b. (p.cell == j) ≡ b → (if (if b then shifted x p else p).cell == k then Some (if b then shifted x p else p) else pending_of k (all_moved j x ps)) ≡ (if p.cell == k then Some p else pending_of k ps)) [
+      | true ↦ λ t. let no : (p.cell == k) ≡ false = grind (arith, nat_tests, t, ne) in
+          ap (λ c. if c then Some (shifted x p) else pending_of k (all_moved j x ps)) no ∙ (shifted-other j k x ps ne ∙ sym (ap (λ c. if c then Some p else pending_of k ps) no))
+      | false ↦ λ t. ap (λ r. if p.cell == k then Some p else r) (shifted-other j k x ps ne)
+    ]
+    refl
+
+pub without-same : (j : ℕ) (ps : List Pending) → pending_of j (without j ps) ≡ None
+without-same j [] = refl
+without-same j (p ∷ ps) =
+    elim (p.cell == j)
+    as (λ b. (p.cell == j) ≡ b → pending_of j (if b then without j ps else p ∷ without j ps) ≡ None)
+    [ true ↦ λ t. without-same j ps | false ↦ λ t. ap (λ c. if c then Some p else pending_of j (without j ps)) t ∙ without-same j ps ]
+    refl
+
+pub without-other : (j k : ℕ) (ps : List Pending) → (j == k) ≡ false → pending_of k (without j ps) ≡ pending_of k ps
+without-other j k [] ne = refl
+without-other j k (p ∷ ps) ne =
+    elim (p.cell == j)
+    as (λ b. (p.cell == j) ≡ b → pending_of k (if b then without j ps else p ∷ without j ps) ≡ (if p.cell == k then Some p else pending_of k ps)) [
+      | true ↦ λ t. let no : (p.cell == k) ≡ false = grind (arith, nat_tests, t, ne) in without-other j k ps ne ∙ sym (ap (λ c. if c then Some p else pending_of k ps) no)
+      | false ↦ λ t. ap (λ r. if p.cell == k then Some p else r) (without-other j k ps ne)
+    ]
+    refl
+
+-- one more at the end, for a cell that has none
+pub pending-added : (k : ℕ) (ps : List Pending) (q : Pending) → pending_of k ps ≡ None → q.cell ≡ k → pending_of k (ps ++ q ∷ []) ≡ Some q
+pending-added k [] q e is = ap (λ b. if b then Some q else None) (eq-eqb q.cell k is)
+pending-added k (p ∷ ps) q e is =
+    elim (p.cell == k)
+    as (λ b. (if b then Some p else pending_of k ps) ≡ None → (if b then Some p else pending_of k (ps ++ q ∷ [])) ≡ Some q)
+    [ true ↦ λ h. absurd (cc h) | false ↦ λ h. pending-added k ps q h is ]
+    e
+
+-- one more of another cell
+pub pending-beside : (k : ℕ) (ps : List Pending) (q : Pending) → (q.cell == k) ≡ false → pending_of k (ps ++ q ∷ []) ≡ pending_of k ps
+pending-beside k [] q ne = ap (λ b. if b then Some q else None) ne
+pending-beside k (p ∷ ps) q ne = ap (λ r. if p.cell == k then Some p else r) (pending-beside k ps q ne)
+
+more-of : (b : Bool) (m : Message) (xs ys : List Message) → (if b then m ∷ (xs ++ ys) else xs ++ ys) ≡ (if b then m ∷ xs else xs) ++ ys
+more-of true m xs ys = refl
+more-of false m xs ys = refl
+
+pub messages-append : (k : ℕ) (xs ys : List Op) → messages_for k (xs ++ ys) ≡ messages_for k xs ++ messages_for k ys
+messages-append k [] ys = refl
+messages-append k (Join ∷ xs) ys = messages-append k xs ys
+messages-append k (Queue cell ∷ xs) ys = messages-append k xs ys
+messages-append k (Delta cell base d ∷ xs) ys = rw (messages-append k xs ys) (more-of (cell == k) (record { base = base; delta = d }) (messages_for k xs) (messages_for k ys))
+
+pub message-here : (k base : ℕ) (d : List Step) (ops : List Op) → messages_for k (Delta k base d ∷ ops) ≡ record { base = base; delta = d } ∷ messages_for k ops
+message-here k base d ops = ap (λ b. if b then record { base = base; delta = d } ∷ messages_for k ops else messages_for k ops) (eq-eqb k k refl)
+
+pub message-beside : (j k base : ℕ) (d : List Step) (ops : List Op) → (j == k) ≡ false → messages_for k (Delta j base d ∷ ops) ≡ messages_for k ops
+message-beside j k base d ops ne = ap (λ b. if b then record { base = base; delta = d } ∷ messages_for k ops else messages_for k ops) ne
