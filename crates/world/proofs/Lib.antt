@@ -1,4 +1,5 @@
 pub mod Clients
+pub mod Editing
 pub mod Heard
 pub mod Keeping
 pub mod Moving
