@@ -6,3 +6,4 @@ pub mod Moving
 pub mod Pendings
 pub mod Receiving
 pub mod Standing
+pub mod Taking
