@@ -1,6 +1,7 @@
 pub mod Clients
 pub mod Editing
 pub mod Heard
+pub mod Honest
 pub mod Keeping
 pub mod Moving
 pub mod Pendings

@@ -106,7 +106,7 @@ take-whole w c [] whole b member = whole
 take-whole w c (op ∷ ops) whole b member =
     put-whole (called w (ByClient c.number op)) (record c { outbox = ops }) (called-whole w c.number op whole (member-joining (state w.opening w.history) c.number op member)) (behind-more w.history (next_entry w (ByClient c.number op)) c b)
 
-rest-after : (seen later : List Entry) → drop (length seen) (seen ++ later) ≡ later
+pub rest-after : (seen later : List Entry) → drop (length seen) (seen ++ later) ≡ later
 rest-after [] later = refl
 rest-after (e ∷ seen) later = rest-after seen later
 
@@ -123,7 +123,7 @@ held-whole w n (Some c) act e whole f =
     let is : IsBehind w.history c × ((c.number ≡ n) × (is_in n (map number_of w.clients) ≡ true)) = client-is (IsBehind w.history) n w.clients c whole.behind e in
     f c is.0 (rw (is.1.0, whole.joined) is.1.1)
 
-event-whole : (w : World) (e : Event) → IsWhole w → IsWhole (happens w e)
+pub event-whole : (w : World) (e : Event) → IsWhole w → IsWhole (happens w e)
 event-whole w (Join n) whole = join-whole w n whole
 event-whole w (Edit n cell d) whole = held-whole w n (client_of n w.clients) (λ c. with_edited w (edited w.opening c cell d)) refl whole (λ c b member. edit-whole w c cell d (edited w.opening c cell d) whole b refl)
 event-whole w (Post n op) whole = held-whole w n (client_of n w.clients) (λ c. posted w c op) refl whole (λ c b member. post-whole w c op whole b)

@@ -1,5 +1,6 @@
 -- What a client has in flight, and where its message is.
 use Rattle.std.specs.Prelude.{◌≡◌, ◌⊎◌, ℕ, ◌+◌, ◌≤◌, ◌==◌, if◌then◌else◌, List, [], ◌∷◌, ◌++◌, length, drop, Option, Some, None}
+use Rattle.std.specs.List.{AllByRecursion}
 use Rattle.delta.specs.declared.Step.{Step}
 use Rattle.delta.specs.Moves.{FitsText, text_after, over}
 use Rattle.notebook.specs.declared.parts.Cell.{Cell}
@@ -84,6 +85,10 @@ pub record IsHonest (n0 : Parts) (h : List Entry) (c : Client) : Type 0 where
   pub later : List Entry
   pub behind : h ≡ c.seen ++ later
   pub kept : (k : ℕ) → IsKept (state n0 c.seen) later c.number k c.outbox (pending_of k c.pending)
+
+-- all clients stand as they should
+abbrev pub AreHonest : World → Type 0
+AreHonest w = AllByRecursion (IsHonest w.opening w.history) w.clients
 
 -- a delta at the front of an outbox is applied, moved over what was applied after its base
 abbrev pub AreApplied : World → Type 0
