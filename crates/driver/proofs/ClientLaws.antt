@@ -31,7 +31,7 @@ use Rattle.driver.specs.Holder.{Mirrors, Carries, IsBehind, AreEvaluations, AreW
 use Rattle.driver.specs.Standing.{with_outbox}
 use Rattle.driver.specs.declared.session.Session.{Session}
 use Rattle.driver.specs.declared.client.Client.{Client}
-use Rattle.driver.proofs.Holding.{note-stays}
+use Rattle.client_sync.proofs.Holding.{note-stays}
 use Rattle.driver.proofs.SessionLaws.{current-reply, reply_by, taken-holds}
 
 -- what evaluators leave as it is

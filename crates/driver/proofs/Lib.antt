@@ -3,7 +3,6 @@ pub mod ClientLaws
 pub mod EvaluationLaws
 pub mod Frame
 pub mod Fronts
-mod Holding
 pub mod Once
 pub mod PlayerLaws
 pub mod PlayingLaws

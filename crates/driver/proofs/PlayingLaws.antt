@@ -32,7 +32,7 @@ use Rattle.driver.specs.Playing.{IsReady, MayFollow, HavePlayed, IsOnTheWay}
 use Rattle.driver.specs.declared.client.Client.{Client}
 use Rattle.driver.specs.declared.player.Player.{Player}
 use Rattle.driver.proofs.Frame.{with_more, IsMore, play-more}
-use Rattle.driver.proofs.Holding.{holds-all}
+use Rattle.client_sync.proofs.Holding.{holds-all}
 use Rattle.driver.proofs.Once.{all-grown}
 use Rattle.driver.proofs.Fronts.{fronts-show}
 use Rattle.driver.proofs.PlayerLaws.{agree-all}

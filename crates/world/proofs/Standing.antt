@@ -20,7 +20,8 @@ use Rattle.client_sync.specs.Client.{Client, Edited, Done, NoCell, EditTooLong, 
 use Rattle.world.specs.declared.event.Event.{Event}
 use Rattle.world.specs.declared.event.Event.TheVariants.{Join, Edit, Post, Take, Receive}
 use Rattle.world.specs.World.{World, first_world, next_entry, called, with_client, with_joined, with_edited, posted, taken, delivered_next, if_held, happens, after_events, run}
-use Rattle.world.specs.Claims.{IsBehind, IsWhole, AreHeard, number_of}
+use Rattle.client_sync.proofs.Holding.{holds-all}
+use Rattle.world.specs.Claims.{IsBehind, IsWhole, DoAgree, number_of}
 use Rattle.world.proofs.Clients.{put-all, put-numbers, client-is, edited-seen, received-seen}
 
 -- the numbers that a call adds to those that joined
@@ -139,3 +140,7 @@ events-whole w (e ∷ es) whole = events-whole (happens w e) es (event-whole w e
 -- after every list of events the history is legal, those that joined are those that hold a client, and each client has received a front of the history
 pub run-whole : (n0 : Parts) (es : List Event) → IsWhole (run n0 es)
 run-whole n0 es = events-whole (first_world n0) es (record { legal = record { replies = tt }; joined = refl; behind = tt })
+
+-- after every list of events, a client that has received all and has nothing pending holds the server's notebook
+pub run-agree : (n0 : Parts) (es : List Event) → DoAgree (run n0 es)
+run-agree n0 es c all none = let w : World = run n0 es in holds-all w.opening w.history c all none

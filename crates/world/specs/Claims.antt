@@ -1,5 +1,5 @@
 -- What holds in a world, whatever has happened.
-use Rattle.std.specs.Prelude.{◌≡◌, ◌≢◌, ℕ, List, ◌++◌, map, Some}
+use Rattle.std.specs.Prelude.{◌≡◌, ◌≢◌, ℕ, List, [], ◌++◌, map, Some}
 use Rattle.std.specs.List.{AllByRecursion}
 use Rattle.session_ops.specs.declared.entry.Op.{Op}
 use Rattle.session_ops.specs.declared.entry.Call.TheVariants.{Client as ByClient}
@@ -7,7 +7,7 @@ use Rattle.session_ops.specs.declared.entry.Refusal.TheVariants.{NotJoined}
 use Rattle.session_ops.specs.declared.entry.Reply.TheVariants.{Refused}
 use Rattle.session_ops.specs.declared.entry.Entry.{Entry}
 use Rattle.session_ops.specs.State.{Legal, state, reply}
-use Rattle.client_sync.specs.Client.{Client, client_of}
+use Rattle.client_sync.specs.Client.{Client, client_of, held}
 use Rattle.world.specs.World.{World}
 
 abbrev pub number_of : Client → ℕ
@@ -26,3 +26,7 @@ pub record IsWhole (w : World) : Type 0 where
 -- no message of a client is answered as a stranger's
 abbrev pub AreHeard : World → Type 0
 AreHeard w = (n : ℕ) (c : Client) (op : Op) → client_of n w.clients ≡ Some c → reply (state w.opening w.history) (ByClient c.number op) ≢ Refused NotJoined
+
+-- a client that has received all and has nothing pending holds the server's notebook
+abbrev pub DoAgree : World → Type 0
+DoAgree w = (c : Client) → c.seen ≡ w.history → c.pending ≡ [] → held w.opening c ≡ (state w.opening w.history).book
