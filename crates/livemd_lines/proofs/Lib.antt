@@ -1,0 +1,5 @@
+mod Fronts
+mod Loop
+mod Marks
+mod Trims
+mod Worked
