@@ -1,6 +1,8 @@
 -- Spaces and tabs are ASCII, so a text may be cut behind those at its front.
-use Rattle.std.proofs.Common.{◌≡◌, ℕ, zero, suc, ◌+◌, ◌<◌, ◌≤◌, Bool, true, false, cond, List, [], ◌∷◌, length, drop, get_or, arith, refl, ap, sym, ◌∙◌, add-one}
+use Rattle.std.proofs.Common.{◌≡◌, ℕ, zero, suc, ◌+◌, ◌<◌, ◌≤◌, Bool, true, false, cond, ◌&&◌, List, [], ◌∷◌, length, drop, get_or, arith, refl, ap, sym, ◌∙◌, add-one}
 use Rattle.std.proofs.lemmas.Bool.Decides.{nat_tests}
+use Rattle.std.specs.Prelude.{◌==◌}
+use Rattle.std.specs.List.{list_all}
 use Rattle.std.specs.Str.{IsUtf8, IsCharBoundary}
 use Rattle.std.proofs.lemmas.Str.{IsCharBoundary-start, IsCharBoundary-after_ascii}
 use Rattle.livemd_lines.specs.Lines.{drop_front, front_of, is_space_or_tab}
@@ -35,3 +37,12 @@ one_more false x front rest xs e = omega arith
 pub front_and_rest : (p : ℕ → Bool) (xs : List ℕ) → length (front_of p xs) + length (drop_front p xs) ≡ length xs
 front_and_rest p [] = refl
 front_and_rest p (x ∷ xs) = one_more (p x) x (front_of p xs) (drop_front p xs) xs (front_and_rest p xs)
+
+one_behind : (b : Bool) (x : ℕ) (rest xs : List ℕ) (all : Bool) → (length rest == 0) ≡ all → (length (cond b rest (x ∷ xs)) == 0) ≡ b && all
+one_behind true x rest xs all e = e
+one_behind false x rest xs all e = grind (arith, nat_tests)
+
+-- where all pass, nothing is behind them
+pub all-none_behind : (p : ℕ → Bool) (xs : List ℕ) → (length (drop_front p xs) == 0) ≡ list_all p xs
+all-none_behind p [] = refl
+all-none_behind p (x ∷ xs) = one_behind (p x) x (drop_front p xs) xs (list_all p xs) (all-none_behind p xs)

@@ -2,16 +2,17 @@
 use Rattle.std.proofs.Common.{◌≡◌, ℕ, List, [], ◌∷◌, ◌++◌, Option, Some, None, map, refl, codes}
 use Rattle.serde_json.proofs.OnLiterals.{serde_json_on_literals}
 use Rattle.livemd_lines.specs.declared.metadata.Metadata.TheVariants.{BranchParentIndex, BreakMarkdown, ForceMarkdown, Output, Stamp, Unknown}
+use Rattle.livemd_lines.specs.declared.fences.Mark.TheVariants.{Backtick, Tilde}
 use Rattle.livemd_lines.specs.Lines.{lines}
 use Rattle.livemd_lines.specs.Meanings.{metadata_of}
 use Rattle.livemd_lines.specs.Kinds.{Kind, Opens, Inside, Closes, Meta, Heading1, Heading2, Plain, kind_of, kinds_of}
 
 -- a fence that opens, of backticks and of `~`
 abbrev ticks : ℕ → List ℕ → Kind
-ticks count info = Opens (record { mark = 96; count = count }) info
+ticks count info = Opens (record { mark = Backtick; count = count }) info
 
 abbrev tildes : ℕ → List ℕ → Kind
-tildes count info = Opens (record { mark = 126; count = count }) info
+tildes count info = Opens (record { mark = Tilde; count = count }) info
 
 abbrev kinds : List (List ℕ) → List Kind
 kinds ls = map (λ l. l.kind) (kinds_of ls)

@@ -2,6 +2,8 @@
 use Rattle.std.specs.Prelude.{ℕ, ◌==◌, ◌&&◌, nat_le, not, Bool, if◌then◌else◌, Option, Some, None, option_map, unwrap_or, List, [], ◌∷◌, length, drop, codes}
 use Rattle.std.specs.List.{list_all, list_any}
 use Rattle.livemd_lines.specs.declared.fences.Fence.{Fence}
+use Rattle.livemd_lines.specs.declared.fences.Mark.{Mark}
+use Rattle.livemd_lines.specs.declared.fences.Mark.TheVariants.{Backtick, Tilde}
 use Rattle.livemd_lines.specs.declared.metadata.Metadata.{Metadata}
 use Rattle.livemd_lines.specs.Lines.{drop_end, drop_front, front_of, is_space, is_space_or_tab}
 use Rattle.livemd_lines.specs.Meanings.{begins, metadata_of}
@@ -21,6 +23,11 @@ pub record Kinded : Type 0 where
   pub kind : Kind
   pub text : List ℕ
 
+-- the byte that the character of a fence is
+abbrev pub byte_of : Mark → ℕ
+byte_of Backtick = 96
+byte_of Tilde = 126
+
 -- how often a byte stands at the front of a line, and what stands behind it
 abbrev pub is_byte : ℕ → ℕ → Bool
 is_byte mark b = b == mark
@@ -37,14 +44,14 @@ trimmed text = drop_end is_space_or_tab (drop_front is_space_or_tab text)
 
 -- a line opens a fence with three or more backticks and no backtick behind them, or with three or more `~`
 abbrev pub opens_ticks : List ℕ → Bool
-opens_ticks line = nat_le 3 (run 96 line) && not (list_any (is_byte 96) (after_run 96 line))
+opens_ticks line = nat_le 3 (run (byte_of Backtick) line) && not (list_any (is_byte (byte_of Backtick)) (after_run (byte_of Backtick) line))
 
 abbrev pub opens_tildes : List ℕ → Bool
-opens_tildes line = nat_le 3 (run 126 line)
+opens_tildes line = nat_le 3 (run (byte_of Tilde) line)
 
 -- the fence of the mark that a line opens, and its info: what stands behind the mark
-abbrev pub opens_with : ℕ → List ℕ → Kind
-opens_with mark line = Opens (record { mark = mark; count = run mark line }) (trimmed (after_run mark line))
+abbrev pub opens_with : Mark → List ℕ → Kind
+opens_with mark line = Opens (record { mark = mark; count = run (byte_of mark) line }) (trimmed (after_run (byte_of mark) line))
 
 -- the name of a heading with a mark of so many bytes: what stands behind the mark, without outer spaces
 abbrev pub name_behind : ℕ → List ℕ → List ℕ
@@ -60,11 +67,11 @@ unfenced_kind line = unwrap_or (option_map Meta (metadata_of line)) (heading_kin
 
 -- what a line outside fences is
 abbrev pub kind_of : List ℕ → Kind
-kind_of line = if opens_ticks line then opens_with 96 line else (if opens_tildes line then opens_with 126 line else unfenced_kind line)
+kind_of line = if opens_ticks line then opens_with Backtick line else (if opens_tildes line then opens_with Tilde line else unfenced_kind line)
 
 -- a line closes a fence that, without the spaces and tabs at its end, has the fence's character alone, as often at least
 abbrev pub is_closing : Fence → List ℕ → Bool
-is_closing fence line = list_all (is_byte fence.mark) (drop_end is_space_or_tab line) && nat_le fence.count (length (drop_end is_space_or_tab line))
+is_closing fence line = list_all (is_byte (byte_of fence.mark)) (drop_end is_space_or_tab line) && nat_le fence.count (length (drop_end is_space_or_tab line))
 
 -- what a line is before which the fence is open, if one is
 abbrev pub kind_in : Option Fence → List ℕ → Kind

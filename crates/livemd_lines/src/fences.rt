@@ -1,15 +1,33 @@
 //! Fences: the lines round code.
-ghost use Rattle.std.specs.Prelude.{◌≡◌, ◌+◌, ◌<◌, length, MatchOption};
+ghost use Rattle.std.specs.Prelude.{◌≡◌, ◌+◌, length, MatchOption};
 ghost use Rattle.std.specs.List.{list_all};
-ghost use Rattle.livemd_lines.specs.Kinds.{Opens, run, after_run, trimmed, opens_ticks, opens_tildes, opens_with, kind_of, unfenced_kind, is_byte, is_closing};
+ghost use Rattle.livemd_lines.specs.Kinds.{Opens, byte_of, run, after_run, trimmed, opens_ticks, opens_tildes, opens_with, kind_of, unfenced_kind, is_byte, is_closing};
 
 use crate::blanks::{without_end_blanks, without_front_blanks};
 
-/// A fence: its character, a backtick or `~`, and how often that stands at the front of the line
-/// that opens it.
-#[derive(Clone, Copy, Debug)]
+/// The character of a fence.
+#[derive(Clone, Copy, Debug, PartialEq)]
+pub enum Mark {
+    Backtick,
+    Tilde,
+}
+
+impl Mark {
+    /// The character itself.
+    pub fn character(self) -> char
+        ensures { result ≡ byte_of self }
+    {
+        match self {
+            Mark::Backtick => '`',
+            Mark::Tilde => '~',
+        }
+    }
+}
+
+/// A fence: its character, and how often that stands at the front of the line that opens it.
+#[derive(Clone, Copy, Debug, PartialEq)]
 pub struct Fence {
-    pub mark: u8,
+    pub mark: Mark,
     pub count: usize,
 }
 
@@ -21,19 +39,18 @@ pub(crate) struct Opening<'a> {
     pub(crate) info: &'a str,
 }
 
-/// What stands behind the character at the front of a line, however often it stands there.
-fn behind_run(mark: char, line: &str) -> &str
-    requires { mark < 128 }
-    ensures rest { result.now ≡ after_run mark line.now }
-    ensures count { run mark line.now + length result.now ≡ length line.now }
+/// What stands behind the mark at the front of a text, however often it stands there.
+fn behind_run(mark: Mark, text: &str) -> &str
+    ensures rest { result.now ≡ after_run (byte_of mark) text.now }
+    ensures count { run (byte_of mark) text.now + length result.now ≡ length text.now }
 {
-    line.trim_start_matches(mark)
+    text.trim_start_matches(mark.character())
 }
 
 /// The fence of the mark that stands so often at the front of the line, before the rest.
-fn opening_with<'a>(mark: u8, line: &'a str, rest: &'a str) -> Opening<'a>
-    requires behind { rest.now ≡ after_run mark line.now }
-    requires count { run mark line.now + length rest.now ≡ length line.now }
+fn opening_with<'a>(mark: Mark, line: &'a str, rest: &'a str) -> Opening<'a>
+    requires behind { rest.now ≡ after_run (byte_of mark) line.now }
+    requires count { run (byte_of mark) line.now + length rest.now ≡ length line.now }
     ensures { opens_with mark line.now ≡ Opens result.fence result.info.now }
 {
     Opening {
@@ -66,22 +83,22 @@ fn opens_tildes(line: &[u8], rest: &[u8]) -> bool
 pub(crate) fn opening_of(line: &str) -> Option<Opening<'_>>
     ensures { MatchOption result (kind_of line.now ≡ unfenced_kind line.now) (λ o. kind_of line.now ≡ Opens o.fence o.info.now) }
 {
-    let rest = behind_run('`', line);
+    let rest = behind_run(Mark::Backtick, line);
     if opens_ticks(line.as_bytes(), rest.as_bytes()) {
-        return Some(opening_with(b'`', line, rest));
+        return Some(opening_with(Mark::Backtick, line, rest));
     }
-    let rest = behind_run('~', line);
+    let rest = behind_run(Mark::Tilde, line);
     if opens_tildes(line.as_bytes(), rest.as_bytes()) {
-        return Some(opening_with(b'~', line, rest));
+        return Some(opening_with(Mark::Tilde, line, rest));
     }
     None
 }
 
-/// Whether all bytes of a text are the mark.
-fn is_only(mark: u8, text: &[u8]) -> bool
-    ensures { result ≡ list_all (is_byte mark) text.now }
+/// Whether all of a text is the mark.
+fn is_only(mark: Mark, text: &str) -> bool
+    ensures { result ≡ list_all (is_byte (byte_of mark)) text.now }
 {
-    text.iter().all(|byte| *byte == mark)
+    behind_run(mark, text).is_empty()
 }
 
 impl Fence {
@@ -89,7 +106,7 @@ impl Fence {
     pub(crate) fn is_closed_by(&self, line: &str) -> bool
         ensures { result ≡ is_closing self.now line.now }
     {
-        let kept = without_end_blanks(line).as_bytes();
+        let kept = without_end_blanks(line);
         is_only(self.mark, kept) && self.count <= kept.len()
     }
 }

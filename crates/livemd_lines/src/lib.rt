@@ -10,6 +10,6 @@ mod fences;
 mod kinds;
 mod metadata;
 
-pub use fences::Fence;
+pub use fences::{Fence, Mark};
 pub use kinds::{Line, LineKind, lines};
 pub use metadata::Metadata;

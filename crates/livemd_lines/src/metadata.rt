@@ -9,7 +9,7 @@ use serde_json::{Map, Value};
 use std::alloc::{AllocError, Global};
 
 /// What a metadata line means, by its object.
-#[derive(Clone, Copy, Debug)]
+#[derive(Clone, Copy, Debug, PartialEq)]
 pub enum Metadata {
     /// The next section branches from the section with this index, counted from 0:
     /// `{"branch_parent_index":0}`.
