@@ -9,7 +9,7 @@ use Rattle.std.proofs.lemmas.List.{append-nil, map-append, take_more, take_all}
 use Rattle.livemd_lines.specs.declared.fences.Fence.{Fence}
 use Rattle.livemd_lines.specs.declared.kinds.Line.{Line}
 use Rattle.livemd_lines.specs.Lines.{drop_end, is_cr, is_lf, without_empty_last, lines}
-use Rattle.livemd_lines.specs.Kinds.{Kind, Kinded, kind_in, kinds_in, kinds_of, open_after}
+use Rattle.livemd_lines.specs.Kinds.{Kind, kind_in, kinds_in, kinds_of, open_after}
 use Rattle.livemd_lines.specs.Views.{kind_view, line_view, lines_view}
 use Rattle.livemd_lines.proofs.Trims.{drop_end-gone}
 

@@ -1,5 +1,5 @@
 -- Worked lines, by computation: a check of the definitions.
-use Rattle.std.proofs.Common.{◌≡◌, ℕ, List, [], ◌∷◌, ◌++◌, Option, Some, None, map, refl, codes}
+use Rattle.std.proofs.Common.{◌≡◌, ℕ, List, [], ◌∷◌, ◌++◌, Some, None, map, refl, codes}
 use Rattle.serde_json.proofs.OnLiterals.{serde_json_on_literals}
 use Rattle.livemd_lines.specs.declared.metadata.Metadata.TheVariants.{BranchParentIndex, BreakMarkdown, ForceMarkdown, Output, Stamp, Unknown}
 use Rattle.livemd_lines.specs.declared.fences.Mark.TheVariants.{Backtick, Tilde}

@@ -1,5 +1,5 @@
 -- The lines that the code's lines stand for.
-use Rattle.std.specs.Prelude.{ℕ, List, map}
+use Rattle.std.specs.Prelude.{List, map}
 use Rattle.livemd_lines.specs.declared.kinds.LineKind.{LineKind}
 use Rattle.livemd_lines.specs.declared.kinds.LineKind.TheVariants as line
 use Rattle.livemd_lines.specs.declared.kinds.Line.{Line}

@@ -1,7 +1,6 @@
 use Rattle.std.proofs.Common.{◌≡◌, ◌<◌, ◌-◌, false, get_or, arith}
 use native.Mathlib.Nat.{sub-zero}
 use Rattle.livemd_lines.specs.Lines.{is_space_or_tab}
-use Rattle.livemd_lines.proofs.Fronts.{end_boundary}
 use Rattle.livemd_lines.proofs.Trims.{cut_back, cut_ends}
 use Rattle.livemd_lines.proofs.blanks.without_end_blanks.Goals as goal
 use Rattle.livemd_lines.proofs.blanks.without_end_blanks.Goals.{then-loop-end-test+else-is_space_or_tab, else-loop-end-test}

@@ -1,4 +1,4 @@
-use Rattle.std.proofs.Common.{◌≡◌, ℕ, ◌<◌, ◌≤◌, true, take, length, get_or}
+use Rattle.std.proofs.Common.{◌≡◌, ◌<◌, ◌≤◌, true, take, length, get_or}
 use Rattle.livemd_lines.specs.Lines.{drop_end, is_space_or_tab}
 use Rattle.livemd_lines.proofs.blanks.without_end_blanks.Given as goal
 

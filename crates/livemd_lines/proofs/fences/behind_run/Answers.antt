@@ -1,4 +1,4 @@
-use Rattle.std.proofs.Common.{◌≡◌, ◌+◌, ◌<◌, ℕ, List, length, subst, sym, ap, ◌∙◌, lit<}
+use Rattle.std.proofs.Common.{◌≡◌, ◌+◌, ◌<◌, ℕ, List, length, subst, ap, ◌∙◌, lit<}
 use Rattle.std.specs.Str.Pattern.{FindsCharPrefix, IsTrimStartMatches}
 use Rattle.livemd_lines.specs.declared.fences.Mark.{Mark}
 use Rattle.livemd_lines.specs.declared.fences.Mark.TheVariants.{Backtick, Tilde}
