@@ -23,12 +23,6 @@ drop_front-is p (x ∷ xs) zero within cut stops = rw (stops (omega arith)) refl
 drop_front-is p (x ∷ xs) (suc n) within cut stops =
     rw (cut 0 (omega arith)) (drop_front-is p xs n (omega arith) (λ k h. cut (suc k) (omega arith)) (λ h. stops (omega arith)))
 
--- a text may be cut before a space or tab, and at its end
-pub end_boundary : (bs : List ℕ) (n : ℕ) → n ≤ length bs → (n < length bs → is_space_or_tab (get_or bs n 0) ≡ true) → IsCharBoundary bs n
-end_boundary bs n within blank =
-    let byte : n < length bs → get_or bs n 0 < 128 = λ h. is_space_or_tab-ascii (get_or bs n 0) (blank h) in
-    (omega arith, λ h k. absurd (omega (arith, byte h)))
-
 -- a list is its front and what is behind it
 one_more : (b : Bool) (x : ℕ) (front rest xs : List ℕ) → length front + length rest ≡ length xs → length (cond b (x ∷ front) []) + length (cond b rest (x ∷ xs)) ≡ length (x ∷ xs)
 one_more true x front rest xs e = omega (arith, e)

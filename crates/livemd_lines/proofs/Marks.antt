@@ -1,16 +1,13 @@
 -- What std's strips give, and the members of an object.
 use Rattle.std.proofs.Common.{◌≡◌, ℕ, suc, ◌-◌, Bool, true, false, cond, List, [], ◌∷◌, Option, Some, None, MatchOption, option_map, length, take, drop, arith, refl, ap, sym, subst, ◌∙◌, String}
-use Rattle.std.specs.Prelude.{◌==◌}
 use Rattle.std.specs.Borrow.{Bor}
 use Rattle.std.specs.Str.{IsCharBoundary}
 use Rattle.std.specs.Str.Pattern.{FindsTextPrefix, FindsTextSuffix, StripsPrefix, StripsSuffix}
 use Rattle.std.specs.declared.alloc.Global.{Global}
 use Rattle.std.proofs.lemmas.Str.Pattern.{starts_text, ends_text}
-use Rattle.std.proofs.lemmas.Bool.Decides.{nat_tests}
-use Rattle.serde_json.specs.Find.{get_member}
 use Rattle.serde_json.specs.View.{members_view}
 use Rattle.serde_json.specs.declared.value.Value.{Value}
-use Rattle.livemd_lines.specs.Meanings.{begins, ends, behind, before, member_count, only}
+use Rattle.livemd_lines.specs.Meanings.{begins, ends, behind, before, member_count}
 
 pub strips_front : (o : Option (Bor (List ℕ))) (n s : List ℕ) → MatchOption o (FindsTextPrefix n s None) (λ x. StripsPrefix (FindsTextPrefix n) s x.now) → option_map (λ t. t.now) o ≡ behind n s
 strips_front None n s h =
@@ -32,19 +29,3 @@ strips_end (Some x) n s h =
 pub member_count-is : (es : List (String Global × Value)) → member_count (members_view es) ≡ length es
 member_count-is [] = refl
 member_count-is (e ∷ es) = ap suc (member_count-is es)
-
-only-by : (name : List ℕ) (es : List (String Global × Value)) (b : Bool) → (length es == 1) ≡ b → cond b (get_member name (members_view es)) None ≡ only name (members_view es)
-only-by name es b h = ap (λ (w : Bool). cond w (get_member name (members_view es)) None) (sym h ∙ ap (λ n. n == 1) (sym (member_count-is es)))
-
-is_one : (n m : ℕ) → m ≡ n → m ≡ 1 → (n == 1) ≡ true
-is_one n m e h = grind (arith, nat_tests)
-
-isnt_one : (n m : ℕ) → m ≡ n → (m ≡ 1 → ⊥) → (n == 1) ≡ false
-isnt_one n m e h = grind (arith, nat_tests)
-
--- a member that stands alone, and one that doesn't
-pub only-one : (name : List ℕ) (es : List (String Global × Value)) (count : ℕ) → count ≡ length es → count ≡ 1 → get_member name (members_view es) ≡ only name (members_view es)
-only-one name es count e h = only-by name es true (is_one (length es) count e h)
-
-pub only-none : (name : List ℕ) (es : List (String Global × Value)) (count : ℕ) → count ≡ length es → (count ≡ 1 → ⊥) → None ≡ only name (members_view es)
-only-none name es count e h = only-by name es false (isnt_one (length es) count e h)

@@ -1,8 +1,8 @@
 //! What metadata lines mean.
-ghost use Rattle.std.specs.Prelude.{◌≡◌, codes, option_map, IfOk};
+ghost use Rattle.std.specs.Prelude.{◌≡◌, ◌==◌, codes, option_map, IfOk};
 ghost use Rattle.serde_json.specs.Find.{get_member};
 ghost use Rattle.serde_json.specs.View.{view, members_view};
-ghost use Rattle.livemd_lines.specs.Meanings.{behind, before, between, only, parent_index, is_set, other_meaning, set_meaning, meaning, meaning_in, metadata_of};
+ghost use Rattle.livemd_lines.specs.Meanings.{behind, before, between, member_count, only, parent_index, is_set, other_meaning, set_meaning, meaning, meaning_in, metadata_of};
 
 use crate::blanks::without_end_blanks;
 use serde_json::{Map, Value};
@@ -48,11 +48,25 @@ fn between(line: &str) -> Option<&str>
     before(" -->", behind("<!-- livebook:", without_end_blanks(line))?)
 }
 
+/// The value of the member of this name.
+fn member<'a>(members: &'a Map<String, Value>, name: &str) -> Option<&'a Value>
+    ensures { option_map (λ v. view v.now) result ≡ get_member name.now (members_view members.now.entries) }
+{
+    members.get(name)
+}
+
+/// Whether an object has exactly one member.
+fn has_one(members: &Map<String, Value>) -> bool
+    ensures { result ≡ (member_count (members_view members.now.entries) == 1) }
+{
+    members.len() == 1
+}
+
 /// The value of the member of this name, where the object has no other member.
 fn only<'a>(members: &'a Map<String, Value>, name: &str) -> Option<&'a Value>
     ensures { option_map (λ v. view v.now) result ≡ only name.now (members_view members.now.entries) }
 {
-    if members.len() == 1 {
+    if has_one(members) {
         member(members, name)
     } else {
         None
@@ -73,13 +87,6 @@ fn is_set(members: &Map<String, Value>, name: &str) -> bool
     only(members, name)
         .and_then(Value::as_bool)
         .unwrap_or(false)
-}
-
-/// The value of the member of this name.
-fn member<'a>(members: &'a Map<String, Value>, name: &str) -> Option<&'a Value>
-    ensures { option_map (λ v. view v.now) result ≡ get_member name.now (members_view members.now.entries) }
-{
-    members.get(name)
 }
 
 /// What an object means that is none of the four that are known.
