@@ -5,6 +5,7 @@ use Rattle.livemd_lines.specs.declared.metadata.Metadata.TheVariants.{BranchPare
 use Rattle.livemd_lines.specs.declared.fences.Mark.TheVariants.{Backtick, Tilde}
 use Rattle.livemd_lines.specs.Lines.{lines}
 use Rattle.livemd_lines.specs.Meanings.{metadata_of}
+use Rattle.livemd_lines.specs.Written.{longest_run, text_of_lines}
 use Rattle.livemd_lines.specs.Kinds.{Kind, Opens, Inside, Closes, Meta, Heading1, Heading2, Plain, kind_of, kinds_of}
 
 -- a fence that opens, of backticks and of `~`
@@ -178,3 +179,11 @@ other_comment = refl
 inside : kinds (codes "```" ∷ codes "<!-- livebook:{\"output\":true} -->" ∷ codes "```" ∷ codes "<!-- livebook:{\"output\":true} -->" ∷ []) ≡ ticks 3 [] ∷ Inside ∷ Closes ∷ Meta Output ∷ []
 unfolding serde_json_on_literals
 inside = refl
+
+-- ---- what is written
+
+written : text_of_lines (codes "a" ∷ [] ∷ codes "b" ∷ []) ≡ codes "a" ++ 10 ∷ 10 ∷ codes "b" ++ 10 ∷ []
+written = refl
+
+runs : longest_run (codes "`a```b``") ≡ 3
+runs = refl
