@@ -1,0 +1,120 @@
+//! The lines of a text, each with what it is.
+ghost use Rattle.std.specs.Prelude.{◌≡◌, IfOk};
+ghost use Rattle.livemd_lines.specs.Lines.{is_blank, lines};
+ghost use Rattle.livemd_lines.specs.Kinds.{heading_kind, kind_of, kind_in, open_after, kinded, kinds_of};
+ghost use Rattle.livemd_lines.specs.Views.{kind_view, line_view, lines_view};
+
+use crate::blanks;
+use crate::blanks::{trim_spaces, without_crs};
+use crate::fences::{Fence, opening_of};
+use crate::metadata::{Metadata, metadata_of};
+use std::alloc::{AllocError, Global};
+
+/// What a line is.
+#[derive(Clone, Copy, Debug)]
+pub enum LineKind<'a> {
+    /// It opens a fence. The info is what stands behind the fence's character, without outer
+    /// spaces and tabs.
+    Opens { fence: Fence, info: &'a str },
+    /// It stands inside a fence, whatever it looks like.
+    Inside,
+    /// It closes the fence.
+    Closes,
+    /// A metadata line.
+    Metadata(Metadata),
+    /// It begins with `# `; the rest without outer spaces.
+    Heading1(&'a str),
+    /// It begins with `## `; the rest without outer spaces.
+    Heading2(&'a str),
+    /// Every other line, a blank one too.
+    Text,
+}
+
+/// A line of a text: what it is, and its text without line feed and without the carriage returns
+/// at its end.
+#[derive(Clone, Copy, Debug)]
+pub struct Line<'a> {
+    pub kind: LineKind<'a>,
+    pub text: &'a str,
+}
+
+impl Line<'_> {
+    /// Whether the line has only spaces and tabs, or nothing.
+    pub fn is_blank(&self) -> bool
+        ensures { result ≡ is_blank self.now.text.now }
+    {
+        blanks::is_blank(self.text)
+    }
+}
+
+/// What a line is that neither opens a fence nor is metadata.
+fn heading_kind(line: &str) -> LineKind<'_>
+    ensures { kind_view result ≡ heading_kind line.now }
+{
+    if let Some(name) = line.strip_prefix("# ") {
+        return LineKind::Heading1(trim_spaces(name));
+    }
+    if let Some(name) = line.strip_prefix("## ") {
+        return LineKind::Heading2(trim_spaces(name));
+    }
+    LineKind::Text
+}
+
+/// What a line outside fences is.
+fn kind_of(alloc: Global, line: &str) -> Result<LineKind<'_>, AllocError>
+    ensures { IfOk result (λ kind. kind_view kind ≡ kind_of line.now) }
+{
+    if let Some(opening) = opening_of(line) {
+        return Ok(LineKind::Opens {
+            fence: opening.fence,
+            info: opening.info,
+        });
+    }
+    match metadata_of(alloc, line)? {
+        Some(metadata) => Ok(LineKind::Metadata(metadata)),
+        None => Ok(heading_kind(line)),
+    }
+}
+
+/// What a line is before which the fence is open, if one is.
+fn kind_in(alloc: Global, around: Option<Fence>, line: &str) -> Result<LineKind<'_>, AllocError>
+    ensures { IfOk result (λ kind. kind_view kind ≡ kind_in around line.now) }
+{
+    match around {
+        Some(fence) => {
+            if fence.is_closed_by(line) {
+                Ok(LineKind::Closes)
+            } else {
+                Ok(LineKind::Inside)
+            }
+        }
+        None => kind_of(alloc, line),
+    }
+}
+
+/// The fence that is open after a line of the kind, by the one that is open before it.
+fn open_after(around: Option<Fence>, kind: &LineKind<'_>) -> Option<Fence>
+    ensures { result ≡ open_after around (kind_view kind.now) }
+{
+    match kind {
+        LineKind::Opens { fence, info: _ } => Some(*fence),
+        LineKind::Closes => None,
+        _ => around,
+    }
+}
+
+/// The lines of a text, each with its kind. A text is cut at each line feed, and an empty last
+/// piece is no line.
+pub fn lines(alloc: Global, text: &str) -> Result<Vec<Line<'_>>, AllocError>
+    ensures { IfOk result (λ all. lines_view all.items ≡ kinds_of (lines text.now)) }
+{
+    let mut done = Vec::new(alloc);
+    let mut around = None;
+    for line in text.lines() {
+        let text = without_crs(line);
+        let kind = kind_in(alloc, around, text)?;
+        around = open_after(around, &kind);
+        done.push(Line { kind, text })?;
+    }
+    Ok(done)
+}
