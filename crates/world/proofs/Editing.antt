@@ -15,6 +15,7 @@ use Rattle.notebook.specs.Book.{cells, found, resourced_cell, resourced_cells, r
 use Rattle.session_ops.specs.declared.entry.Op.{Op}
 use Rattle.session_ops.specs.declared.entry.Op.TheVariants.{Delta}
 use Rattle.session_ops.specs.declared.entry.Entry.{Entry}
+use Rattle.session_ops.specs.Work.{is_in}
 use Rattle.session_ops.specs.State.{State, Misfit, state, revision, misfit}
 use Rattle.client_sync.specs.Client.{Client, Pending, Edited, Done, NoCell, EditTooLong, Unfit, pending_of, after_buffer, with_pending, own_source, delivered, held, edited, edited_cell, with_fitting, with_edit, buffered}
 use Rattle.world.specs.Waiting.{messages_for, HasSource, FitsHere, IsKept, IsHonest}
@@ -104,6 +105,7 @@ edit-honest n0 h c j d t there f honest =
     record {
       later = honest.later;
       behind = honest.behind ∙ ap (λ es. es ++ honest.later) (sym seen);
+      since = subst (λ es. is_in x.number (state n0 es).joined ≡ true) (sym seen) (subst (λ n. is_in n (state n0 c.seen).joined ≡ true) (sym number) honest.since);
       kept = λ k. subst (λ es. IsKept (state n0 es) honest.later x.number k x.outbox (pending_of k x.pending)) (sym seen) (subst (λ n. IsKept (state n0 c.seen) honest.later n k x.outbox (pending_of k x.pending)) (sym number) (edit-kept (state n0 c.seen) honest.later c j rev d t refl there f honest.kept k));
     }
 

@@ -1,7 +1,7 @@
 -- All clients go on standing as they should, with each event.
 use Rattle.std.proofs.Common.{◌≡◌, ℕ, ◌+◌, ◌==◌, Bool, true, false, if◌then◌else◌, List, [], ◌∷◌, ◌++◌, length, drop, map, Option, Some, None, refl, sym, ap, subst, ◌∙◌, arith, append_assoc}
 use Rattle.std.specs.List.{AllByRecursion}
-use Rattle.std.proofs.lemmas.Bool.{eqb-true}
+use Rattle.std.proofs.lemmas.Bool.{eqb-true, or_right}
 use Rattle.std.proofs.lemmas.Bool.Decides.{nat_tests}
 use Rattle.std.proofs.lemmas.List.{append-nil}
 use Rattle.delta.specs.declared.Step.{Step}
@@ -10,15 +10,16 @@ use Rattle.notebook.specs.declared.parts.Parts.{Parts}
 use Rattle.session_ops.specs.declared.entry.Op.{Op}
 use Rattle.session_ops.specs.declared.entry.Op.TheVariants.{Join as Joins, Delta, Queue}
 use Rattle.session_ops.specs.declared.entry.Call.{Call}
-use Rattle.session_ops.specs.declared.entry.Call.TheVariants.{Client as ByClient}
+use Rattle.session_ops.specs.declared.entry.Call.TheVariants.{Client as ByClient, Start, Respond}
 use Rattle.session_ops.specs.declared.entry.Refusal.TheVariants.{AlreadyJoined}
 use Rattle.session_ops.specs.declared.entry.Reply.{Reply}
-use Rattle.session_ops.specs.declared.entry.Reply.TheVariants.{Accepted, Applied, Refused}
+use Rattle.session_ops.specs.declared.entry.Reply.TheVariants.{Accepted, Applied, Started, Stored, Refused}
 use Rattle.session_ops.specs.declared.entry.Entry.{Entry}
 use Rattle.session_ops.specs.State.{State, Job, state, state_from, opening, after, after_call, reply, revision, taken_by, floor, HasReplies, Legal, jobs_from}
 use Rattle.session_ops.specs.Work.{is_in}
 use Rattle.session_ops.proofs.Growing.{state-append}
-use Rattle.session_ops.proofs.Lists.{all-append}
+use Rattle.session_ops.proofs.Lists.{all-append, in-more}
+use Rattle.session_ops.proofs.Members.{in-here, in-append}
 use Rattle.client_sync.specs.Client.{Client, Pending, Edited, Done, NoCell, EditTooLong, Unfit, edited, received_entry, with_call, with_own, reposted, joined_client, with_message, pending_of, all_moved, client_of, put_client}
 use Rattle.world.specs.declared.event.Event.{Event}
 use Rattle.world.specs.declared.event.Event.TheVariants.{Join, Edit, Post, Take, Receive}
@@ -49,13 +50,14 @@ honest-more n0 h c e others honest =
     record {
       later = honest.later ++ e ∷ [];
       behind = ap (λ k. k ++ e ∷ []) honest.behind ∙ append_assoc c.seen honest.later (e ∷ []);
+      since = honest.since;
       kept = λ k. kept-more (state n0 c.seen) honest.later c.number k c.outbox (pending_of k c.pending) e (subst (λ s. IsOthers s c.number k e) (at-end n0 h c honest) (others k)) (honest.kept k);
     }
 
 -- another outbox with the same messages
 honest-ops : (n0 : Parts) (h : List Entry) (c : Client) (ops : List Op) → ((k : ℕ) → messages_for k ops ≡ messages_for k c.outbox) → IsHonest n0 h c → IsHonest n0 h (record c { outbox = ops })
 honest-ops n0 h c ops same honest =
-    record { later = honest.later; behind = honest.behind; kept = λ k. kept-ops (state n0 c.seen) honest.later c.number k c.outbox ops (pending_of k c.pending) (same k) (honest.kept k) }
+    record { later = honest.later; behind = honest.behind; since = honest.since; kept = λ k. kept-ops (state n0 c.seen) honest.later c.number k c.outbox ops (pending_of k c.pending) (same k) (honest.kept k) }
 
 others-of : (w : World) (m n k : ℕ) (op : Op) → (m == n) ≡ false → IsOthers (state w.opening w.history) n k (next_entry w (ByClient m op))
 others-of w m n k op ne =
@@ -109,8 +111,16 @@ join-refused w n honest e =
     let x : Entry = next_entry w (ByClient n Joins) in
     all-from-all (IsHonest w.opening w.history) (IsHonest w.opening (w.history ++ x ∷ [])) w.clients (λ c h. honest-more w.opening w.history c x (λ k. refused-others w n c.number k e) h) honest
 
-new-honest : (n0 : Parts) (h : List Entry) (n : ℕ) → Legal n0 h → IsHonest n0 h (joined_client n h)
-new-honest n0 h n l = record { later = []; behind = sym (append-nil h); kept = λ k. record { gone = refl; known = floor-within n0 h n k l; none = tt } }
+new-honest : (n0 : Parts) (h : List Entry) (n : ℕ) → Legal n0 h → is_in n (state n0 h).joined ≡ true → IsHonest n0 h (joined_client n h)
+new-honest n0 h n l mine = record { later = []; behind = sym (append-nil h); since = mine; kept = λ k. record { gone = refl; known = floor-within n0 h n k l; none = tt } }
+
+-- a number whose joining was accepted has joined
+join-since : (w : World) (n : ℕ) → is_in n (state w.opening w.history).joined ≡ false → is_in n (state w.opening (w.history ++ next_entry w (ByClient n Joins) ∷ [])).joined ≡ true
+join-since w n e =
+    let s : State = state w.opening w.history in
+    let answer : reply s (ByClient n Joins) ≡ Accepted = ap (λ b. if b then Refused AlreadyJoined else Accepted) e in
+    let now : (state w.opening (w.history ++ next_entry w (ByClient n Joins) ∷ [])).joined ≡ s.joined ++ n ∷ [] = ap (λ t. t.joined) (state-append w.opening w.history (next_entry w (ByClient n Joins))) ∙ ap (λ a. (after_call s (ByClient n Joins) a).joined) answer in
+    ap (is_in n) now ∙ (in-append n s.joined (n ∷ []) ∙ or_right (is_in n s.joined) (is_in n (n ∷ [])) (in-here n []))
 
 join-accepted : (w : World) (n : ℕ) → IsWhole w → AreHonest w → is_in n (state w.opening w.history).joined ≡ false → AreHonest (with_joined (called w (ByClient n Joins)) n Accepted)
 join-accepted w n whole honest e =
@@ -119,7 +129,7 @@ join-accepted w n whole honest e =
     let absent : is_in n (map number_of w.clients) ≡ false = subst (λ ns. is_in n ns ≡ false) whole.joined e in
     all-append (IsHonest w.opening h) w.clients (joined_client n h ∷ [])
     (all-absent (IsHonest w.opening w.history) (IsHonest w.opening h) n w.clients absent (λ c ne p. honest-more w.opening w.history c x (λ k. others-of w n c.number k Joins ne) p) honest)
-    (new-honest w.opening h n (call-legal w n Joins whole), tt)
+    (new-honest w.opening h n (call-legal w n Joins whole) (join-since w n e), tt)
 
 join-honest : (w : World) (n : ℕ) → IsWhole w → AreHonest w → AreHonest (happens w (Join n))
 join-honest w n whole honest =
@@ -169,6 +179,7 @@ own-taken w c j base d ops e is whole member =
     record {
       later = is.later ++ x ∷ [];
       behind = ap (λ k. k ++ x ∷ []) is.behind ∙ append_assoc c.seen is.later (x ∷ []);
+      since = is.since;
       kept = λ k. taken-kept s is.later c.number j base k d ops (λ i. pending_of i c.pending) x (revision t j + 1) (over d (drop base (taken_by j t.taken))) (front w c j base d ops e is) refl answer refl refl (subst (λ os. IsKept s is.later c.number k os (pending_of k c.pending)) e (is.kept k));
     }
 
@@ -204,6 +215,17 @@ call-number c (ByClient n (Delta cell base d)) (Applied rev x) =
     [ true ↦ own-number c cell rev (pending_of cell c.pending) | false ↦ refl ]
 call-number c call answer = refl
 
+call-joined : (s : State) (call : Call) (answer : Reply) (n : ℕ) → is_in n s.joined ≡ true → is_in n (after_call s call answer).joined ≡ true
+call-joined s (ByClient m Joins) Accepted n e = in-more n s.joined (m ∷ []) e
+call-joined s (ByClient m (Delta j base d)) (Applied rev x) n e = e
+call-joined s (ByClient m (Queue cell)) Accepted n e = e
+call-joined s (Start lane) (Started eval cell) n e = e
+call-joined s (Respond eval shown) (Stored i) n e = e
+call-joined s call answer n e = e
+
+still-joined : (s : State) (e : Entry) (n : ℕ) → is_in n s.joined ≡ true → is_in n (after s e).joined ≡ true
+still-joined s e n mine = call-joined s e.call e.reply n mine
+
 entry-honest : (n0 : Parts) (h : List Entry) (c : Client) (e : Entry) (es : List Entry) → Legal n0 h → (is : IsHonest n0 h c) → is.later ≡ e ∷ es → IsHonest n0 h (received_entry n0 c e)
 entry-honest n0 h c e es l is more =
     let s : State = state n0 c.seen in
@@ -216,6 +238,7 @@ entry-honest n0 h c e es l is more =
     record {
       later = es;
       behind = is.behind ∙ (ap (λ k. c.seen ++ k) more ∙ (sym (append_assoc c.seen (e ∷ []) es) ∙ ap (λ k. k ++ es) (sym seen)));
+      since = subst (λ u. is_in x.number u.joined ≡ true) (sym now) (subst (λ n. is_in n (after s e).joined ≡ true) (sym number) (still-joined s e c.number is.since));
       kept = λ k. subst (λ u. IsKept u es x.number k x.outbox (pending_of k x.pending)) (sym now) (
           subst (λ n. IsKept (after s e) es n k x.outbox (pending_of k x.pending)) (sym number)
           (call-received s c1 e es e.call e.reply k (record { call_is = refl; reply_is = refl; right = replies.1.0 }) (subst (λ later. IsKept s later c.number k c.outbox (pending_of k c.pending)) more (is.kept k)))
@@ -247,7 +270,7 @@ events-honest w (e ∷ es) whole honest = events-honest (happens w e) es (event-
 
 -- after every list of events, what each client has in flight is what it posted, moved over what was applied after its base, and fits what the server had
 pub run-honest : (n0 : Parts) (es : List Event) → AreHonest (run n0 es)
-run-honest n0 es = events-honest (first_world n0) es (record { legal = record { replies = tt }; joined = refl; behind = tt }) tt
+run-honest n0 es = events-honest (first_world n0) es (record { legal = record { replies = tt }; under = tt; joined = refl; behind = tt }) tt
 
 honest-applied : (w : World) → IsWhole w → AreHonest w → AreApplied w
 honest-applied w whole honest n c cell base d ops e out =

@@ -8,3 +8,4 @@ pub mod Pendings
 pub mod Receiving
 pub mod Standing
 pub mod Taking
+mod Worked

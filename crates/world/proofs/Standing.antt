@@ -1,7 +1,7 @@
 -- What holds of a world goes on to hold with each event.
-use Rattle.std.proofs.Common.{◌≡◌, ◌≢◌, ℕ, Bool, true, false, if◌then◌else◌, List, [], ◌∷◌, ◌++◌, length, drop, map, Option, Some, None, refl, sym, ap, subst, ◌∙◌, append_assoc}
+use Rattle.std.proofs.Common.{◌≡◌, ◌≢◌, ℕ, ◌+◌, suc, arith, Bool, true, false, if◌then◌else◌, List, [], ◌∷◌, ◌++◌, length, drop, map, Option, Some, None, refl, sym, ap, subst, ◌∙◌, append_assoc}
 use Rattle.std.specs.List.{AllByRecursion}
-use Rattle.std.proofs.lemmas.List.{append-nil, map-append}
+use Rattle.std.proofs.lemmas.List.{append-nil, map-append, length-append}
 use Rattle.delta.specs.declared.Step.{Step}
 use Rattle.notebook.specs.declared.parts.Parts.{Parts}
 use Rattle.session_ops.specs.declared.entry.Op.{Op}
@@ -21,7 +21,7 @@ use Rattle.world.specs.declared.event.Event.{Event}
 use Rattle.world.specs.declared.event.Event.TheVariants.{Join, Edit, Post, Take, Receive}
 use Rattle.world.specs.World.{World, first_world, next_entry, called, with_client, with_joined, with_edited, posted, taken, delivered_next, if_held, happens, after_events, run}
 use Rattle.client_sync.proofs.Holding.{holds-all}
-use Rattle.world.specs.Claims.{IsBehind, IsWhole, DoAgree, number_of}
+use Rattle.world.specs.Claims.{IsBehind, IsUnderZero, IsWhole, DoAgree, number_of}
 use Rattle.world.proofs.Clients.{put-all, put-numbers, client-is, edited-seen, received-seen}
 
 -- the numbers that a call adds to those that joined
@@ -48,19 +48,23 @@ behind-more h e c b = (b.0 ++ e ∷ [], ap (λ k. k ++ e ∷ []) b.1 ∙ append_
 pub call-legal : (w : World) (n : ℕ) (op : Op) → IsWhole w → Legal w.opening (called w (ByClient n op)).history
 call-legal w n op whole = legal-append w.opening w.history (next_entry w (ByClient n op)) whole.legal tt refl
 
+call-under : (w : World) (call : Call) → IsWhole w → AllByRecursion IsUnderZero (called w call).history
+call-under w call whole = all-append IsUnderZero w.history (next_entry w call ∷ []) whole.under (refl, tt)
+
 call-behind : (w : World) (call : Call) → IsWhole w → AllByRecursion (IsBehind (called w call).history) w.clients
 call-behind w call whole = all-weaker (IsBehind w.history) (IsBehind (called w call).history) (λ c b. behind-more w.history (next_entry w call) c b) w.clients whole.behind
 
 -- a client put in its place, where it is behind
 put-whole : (w : World) (c : Client) → IsWhole w → IsBehind w.history c → IsWhole (with_client w c)
 put-whole w c whole b =
-    record { legal = whole.legal; joined = whole.joined ∙ sym (put-numbers c w.clients); behind = put-all (IsBehind w.history) c w.clients b whole.behind }
+    record { legal = whole.legal; under = whole.under; joined = whole.joined ∙ sym (put-numbers c w.clients); behind = put-all (IsBehind w.history) c w.clients b whole.behind }
 
 -- a call that lets nobody join
 called-whole : (w : World) (n : ℕ) (op : Op) → IsWhole w → joining (ByClient n op) (reply (state w.opening w.history) (ByClient n op)) ≡ [] → IsWhole (called w (ByClient n op))
 called-whole w n op whole none =
     record {
       legal = call-legal w n op whole;
+      under = call-under w (ByClient n op) whole;
       joined = entry-joined w (ByClient n op) ∙ (ap (λ ns. (state w.opening w.history).joined ++ ns) none ∙ (append-nil (state w.opening w.history).joined ∙ whole.joined));
       behind = call-behind w (ByClient n op) whole;
     }
@@ -76,6 +80,7 @@ join-accepted w n whole e =
     let h : List Entry = (called w (ByClient n Joins)).history in
     record {
       legal = call-legal w n Joins whole;
+      under = call-under w (ByClient n Joins) whole;
       joined = entry-joined w (ByClient n Joins)
           ∙ (ap (λ a. (state w.opening w.history).joined ++ joining (ByClient n Joins) a) e ∙ (ap (λ ns. ns ++ n ∷ []) whole.joined ∙ sym (map-append number_of w.clients (joined_client n h ∷ []))));
       behind = all-append (IsBehind h) w.clients (joined_client n h ∷ []) (call-behind w (ByClient n Joins) whole) (([], sym (append-nil h)), tt);
@@ -139,8 +144,64 @@ events-whole w (e ∷ es) whole = events-whole (happens w e) es (event-whole w e
 
 -- after every list of events the history is legal, those that joined are those that hold a client, and each client has received a front of the history
 pub run-whole : (n0 : Parts) (es : List Event) → IsWhole (run n0 es)
-run-whole n0 es = events-whole (first_world n0) es (record { legal = record { replies = tt }; joined = refl; behind = tt })
+run-whole n0 es = events-whole (first_world n0) es (record { legal = record { replies = tt }; under = tt; joined = refl; behind = tt })
+
+shorter-none : (seen later : List Entry) → length (seen ++ later) ≡ length seen → later ≡ []
+shorter-none seen [] e = refl
+shorter-none seen (x ∷ later) e = let long : length (seen ++ x ∷ later) ≡ length seen + suc (length later) = length-append seen (x ∷ later) in absurd (omega (arith, e, long))
+
+whole-agree : (w : World) → IsWhole w → DoAgree w
+whole-agree w whole n c e all none =
+    let b : IsBehind w.history c = (client-is (IsBehind w.history) n w.clients c whole.behind e).0 in
+    let last : b.0 ≡ [] = shorter-none c.seen b.0 (ap length (sym b.1) ∙ sym all) in
+    holds-all w.opening w.history c (sym (b.1 ∙ (ap (λ k. c.seen ++ k) last ∙ append-nil c.seen))) none
 
 -- after every list of events, a client that has received all and has nothing pending holds the server's notebook
 pub run-agree : (n0 : Parts) (es : List Event) → DoAgree (run n0 es)
-run-agree n0 es c all none = let w : World = run n0 es in holds-all w.opening w.history c all none
+run-agree n0 es = whole-agree (run n0 es) (run-whole n0 es)
+
+edited-opening : (w : World) (o : Edited) → (with_edited w o).opening ≡ w.opening
+edited-opening w (Done c) = refl
+edited-opening w NoCell = refl
+edited-opening w EditTooLong = refl
+edited-opening w (Unfit why) = refl
+
+joined-opening : (w : World) (n : ℕ) (answer : Reply) → (with_joined w n answer).opening ≡ w.opening
+joined-opening w n Accepted = refl
+joined-opening w n (Applied rev x) = refl
+joined-opening w n (Started eval cell) = refl
+joined-opening w n (Stored eval) = refl
+joined-opening w n (Late eval) = refl
+joined-opening w n (Refused why) = refl
+
+posted-opening : (w : World) (c : Client) (op : Op) → (posted w c op).opening ≡ w.opening
+posted-opening w c Joins = refl
+posted-opening w c (Delta cell base d) = refl
+posted-opening w c (Queue cell) = refl
+
+taken-opening : (w : World) (c : Client) (ops : List Op) → (taken w c ops).opening ≡ w.opening
+taken-opening w c [] = refl
+taken-opening w c (op ∷ ops) = refl
+
+next-opening : (w : World) (c : Client) (es : List Entry) → (delivered_next w c es).opening ≡ w.opening
+next-opening w c [] = refl
+next-opening w c (e ∷ es) = refl
+
+held-opening : (w : World) (o : Option Client) (act : Client → World) → ((c : Client) → (act c).opening ≡ w.opening) → (if_held w o act).opening ≡ w.opening
+held-opening w None act f = refl
+held-opening w (Some c) act f = f c
+
+event-opening : (w : World) (e : Event) → (happens w e).opening ≡ w.opening
+event-opening w (Join n) = joined-opening (called w (ByClient n Joins)) n (reply (state w.opening w.history) (ByClient n Joins))
+event-opening w (Edit n cell d) = held-opening w (client_of n w.clients) (λ c. with_edited w (edited w.opening c cell d)) (λ c. edited-opening w (edited w.opening c cell d))
+event-opening w (Post n op) = held-opening w (client_of n w.clients) (λ c. posted w c op) (λ c. posted-opening w c op)
+event-opening w (Take n) = held-opening w (client_of n w.clients) (λ c. taken w c c.outbox) (λ c. taken-opening w c c.outbox)
+event-opening w (Receive n) = held-opening w (client_of n w.clients) (λ c. delivered_next w c (drop (length c.seen) w.history)) (λ c. next-opening w c (drop (length c.seen) w.history))
+
+events-opening : (w : World) (es : List Event) → (after_events w es).opening ≡ w.opening
+events-opening w [] = refl
+events-opening w (e ∷ es) = events-opening (happens w e) es ∙ event-opening w e
+
+-- the notebook with which the session opened stays
+pub run-opening : (n0 : Parts) (es : List Event) → (run n0 es).opening ≡ n0
+run-opening n0 es = events-opening (first_world n0) es

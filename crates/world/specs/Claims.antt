@@ -1,5 +1,5 @@
 -- What holds in a world, whatever has happened.
-use Rattle.std.specs.Prelude.{◌≡◌, ◌≢◌, ℕ, List, [], ◌++◌, map, Some}
+use Rattle.std.specs.Prelude.{◌≡◌, ◌≢◌, ℕ, List, [], ◌++◌, length, map, Some}
 use Rattle.std.specs.List.{AllByRecursion}
 use Rattle.session_ops.specs.declared.entry.Op.{Op}
 use Rattle.session_ops.specs.declared.entry.Call.TheVariants.{Client as ByClient}
@@ -17,9 +17,14 @@ number_of c = c.number
 abbrev pub IsBehind : List Entry → Client → Type 0
 IsBehind h c = (later : List Entry) × (h ≡ c.seen ++ later)
 
--- the history is legal, those that joined are those that hold a client, in one order, and each client has received a front of the history
+-- the entry stands under the number 0
+abbrev pub IsUnderZero : Entry → Type 0
+IsUnderZero e = e.by ≡ 0
+
+-- the history is legal, all of it under 0, those that joined are those that hold a client, in one order, and each client has received a front of the history
 pub record IsWhole (w : World) : Type 0 where
   pub legal : Legal w.opening w.history
+  pub under : AllByRecursion IsUnderZero w.history
   pub joined : (state w.opening w.history).joined ≡ map number_of w.clients
   pub behind : AllByRecursion (IsBehind w.history) w.clients
 
@@ -27,6 +32,6 @@ pub record IsWhole (w : World) : Type 0 where
 abbrev pub AreHeard : World → Type 0
 AreHeard w = (n : ℕ) (c : Client) (op : Op) → client_of n w.clients ≡ Some c → reply (state w.opening w.history) (ByClient c.number op) ≢ Refused NotJoined
 
--- a client that has received all and has nothing pending holds the server's notebook
+-- a client of the world whose cursor is the history's length, and which has nothing pending, holds the server's notebook
 abbrev pub DoAgree : World → Type 0
-DoAgree w = (c : Client) → c.seen ≡ w.history → c.pending ≡ [] → held w.opening c ≡ (state w.opening w.history).book
+DoAgree w = (n : ℕ) (c : Client) → client_of n w.clients ≡ Some c → length c.seen ≡ length w.history → c.pending ≡ [] → held w.opening c ≡ (state w.opening w.history).book

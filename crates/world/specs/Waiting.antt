@@ -1,5 +1,5 @@
 -- What a client has in flight, and where its message is.
-use Rattle.std.specs.Prelude.{◌≡◌, ◌⊎◌, ℕ, ◌+◌, ◌≤◌, ◌==◌, if◌then◌else◌, List, [], ◌∷◌, ◌++◌, length, drop, Option, Some, None}
+use Rattle.std.specs.Prelude.{◌≡◌, ◌⊎◌, ℕ, ◌+◌, ◌≤◌, ◌==◌, if◌then◌else◌, true, List, [], ◌∷◌, ◌++◌, length, drop, Option, Some, None}
 use Rattle.std.specs.List.{AllByRecursion}
 use Rattle.delta.specs.declared.Step.{Step}
 use Rattle.delta.specs.Moves.{FitsText, text_after, over}
@@ -11,6 +11,7 @@ use Rattle.session_ops.specs.declared.entry.Op.TheVariants.{Join, Delta, Queue}
 use Rattle.session_ops.specs.declared.entry.Call.TheVariants.{Client as ByClient}
 use Rattle.session_ops.specs.declared.entry.Reply.TheVariants.{Applied}
 use Rattle.session_ops.specs.declared.entry.Entry.{Entry}
+use Rattle.session_ops.specs.Work.{is_in}
 use Rattle.session_ops.specs.State.{State, state, state_from, taken_by, revision, floor, reply}
 use Rattle.client_sync.specs.Client.{Client, Pending, pending_of, client_of}
 use Rattle.world.specs.World.{World}
@@ -21,7 +22,7 @@ pub record Message : Type 0 where
   pub base : ℕ
   pub delta : List Step
 
--- the messages for a cell in an outbox
+-- the deltas for a cell in an outbox
 abbrev pub messages_for : ℕ → List Op → List Message
 messages_for k [] = []
 messages_for k (Join ∷ ops) = messages_for k ops
@@ -34,19 +35,19 @@ pub record HasSource (n : Parts) (k : ℕ) (t : List ℕ) : Type 0 where
   pub there : found k (cells n) ≡ Some own
   pub source : own.source ≡ t
 
--- what is in flight fits the source, and what is buffered fits what that gives
+-- the cell lives; what is in flight fits its source at the client's last delivery, and what is buffered fits what that gives
 pub record FitsHere (s : State) (k : ℕ) (p : Pending) : Type 0 where
   pub source : List ℕ
   pub there : HasSource s.book k source
   pub flight : FitsText p.flight source
   pub buffer : FitsText p.buffer (text_after p.flight source)
 
--- what is in flight is what was posted, moved over the deltas applied after its base
+-- what is in flight is what was posted, moved over the deltas applied after its base, up to that delivery
 pub record IsPosted (s : State) (k : ℕ) (m : Message) (flight : List Step) : Type 0 where
   pub early : m.base ≤ revision s k
   pub moved : flight ≡ over m.delta (drop m.base (taken_by k s.taken))
 
--- the message still stands in the outbox, the only one for its cell
+-- the message still stands in the outbox, the only delta for its cell
 pub record IsWaiting (s : State) (later : List Entry) (n k : ℕ) (ops : List Op) (flight : List Step) : Type 0 where
   pub message : Message
   pub only : messages_for k ops ≡ message ∷ []
@@ -70,7 +71,7 @@ pub record IsReturning (s : State) (later : List Entry) (n k : ℕ) (ops : List 
   pub none_after : HasNoOwn n k rest
   pub known : floor n k (state_from s later).known ≤ revision s k + length (applied_in k before) + 1
 
--- nothing of the client's is on its way
+-- no delta of the client's for the cell is on its way
 pub record IsQuiet (s : State) (later : List Entry) (n k : ℕ) (ops : List Op) : Type 0 where
   pub gone : messages_for k ops ≡ []
   pub known : floor n k (state_from s later).known ≤ revision s k
@@ -80,10 +81,11 @@ abbrev pub IsKept : State → List Entry → ℕ → ℕ → List Op → Option 
 IsKept s later n k ops None = IsQuiet s later n k ops
 IsKept s later n k ops (Some p) = FitsHere s k p × (IsWaiting s later n k ops p.flight ⊎ IsReturning s later n k ops p.flight)
 
--- how a client stands to the history, cell by cell
+-- how a client stands to the history, cell by cell: it has received a front with its own joining in it
 pub record IsHonest (n0 : Parts) (h : List Entry) (c : Client) : Type 0 where
   pub later : List Entry
   pub behind : h ≡ c.seen ++ later
+  pub since : is_in c.number (state n0 c.seen).joined ≡ true
   pub kept : (k : ℕ) → IsKept (state n0 c.seen) later c.number k c.outbox (pending_of k c.pending)
 
 -- all clients stand as they should

@@ -35,7 +35,7 @@ called w call = record w { history = w.history ++ next_entry w call ∷ [] }
 abbrev pub with_client : World → Client → World
 with_client w c = record w { clients = put_client c w.clients }
 
--- where the session has accepted a number, it holds a client that has received all up to its joining
+-- a number that the session has accepted holds a client from then on, which has received all up to and with its joining
 abbrev pub with_joined : World → ℕ → Reply → World
 with_joined w n Accepted = record w { clients = w.clients ++ joined_client n w.history ∷ [] }
 with_joined w n (Applied rev x) = w

@@ -6,8 +6,9 @@ use session_ops::Op;
 /// One thing that happens in a world. One that can't happen changes nothing.
 #[derive(Debug, Drop)]
 pub enum Event {
-    /// The number joins the session. Where the session accepts it, it holds a client from then on,
-    /// which has received all up to its own joining.
+    /// The number asks to join. Where the session accepts it, it holds a client from then on, which
+    /// has received all up to and with its own joining. Where the session refuses it, the entry
+    /// stands in the history and nothing else changes.
     Join {
         client: u32,
     },

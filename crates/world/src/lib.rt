@@ -1,7 +1,9 @@
-//! All that can happen between a session and its clients, in any order: definitions and laws.
+//! Joining, editing, posting, taking and receiving, by any number of clients in any order:
+//! definitions and laws.
 //!
-//! What the layers above may rely on: `specs/World.antt` says what each event makes of a world, and
-//! `proofs/` has what holds after every list of events.
+//! What the layers above may rely on: `specs/World.antt` says what each event makes of a world,
+//! `specs/Claims.antt` and `specs/Waiting.antt` what holds after every list of events, and `proofs/`
+//! shows it.
 #![tactic(auto)]
 
 mod event;
