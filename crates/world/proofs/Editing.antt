@@ -24,7 +24,7 @@ use Rattle.world.proofs.Keeping.{kept-ops}
 use Rattle.world.proofs.Pendings.{pending-added, pending-beside, messages-append, message-beside}
 use Rattle.world.proofs.Receiving.{posted-kept}
 
-abbrev with_buffer : List Step → Pending → Pending
+abbrev pub with_buffer : List Step → Pending → Pending
 with_buffer d p = record p { buffer = composed p.buffer d }
 
 abbrev buffer_option : List Step → Option Pending → Option Pending
@@ -52,7 +52,7 @@ buffered-other j k d (p ∷ ps) ne =
     ]
     refl
 
-buffer-text : (b : List Step) (flight : List Step) (t : List ℕ) → text_after b (text_after flight t) ≡ after_buffer b (text_after flight t)
+pub buffer-text : (b : List Step) (flight : List Step) (t : List ℕ) → text_after b (text_after flight t) ≡ after_buffer b (text_after flight t)
 buffer-text [] flight t = delta_laws.nothing.text (text_after flight t) (delta_laws.makes_text flight t)
 buffer-text (s ∷ b) flight t = refl
 

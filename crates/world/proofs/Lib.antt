@@ -8,4 +8,5 @@ pub mod Pendings
 pub mod Receiving
 pub mod Standing
 pub mod Taking
+pub mod Texts
 mod Worked
