@@ -1,0 +1,4 @@
+pub mod Chains
+pub mod Lowest
+pub mod Raising
+pub mod Standing
