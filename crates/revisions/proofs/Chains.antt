@@ -1,7 +1,7 @@
 -- The deltas that a source took, and the texts between them.
-use Rattle.std.proofs.Common.{◌≡◌, ℕ, zero, suc, ◌+◌, ◌-◌, ◌<◌, ◌≤◌, ◌==◌, inl, inr, true, false, if◌then◌else◌, List, [], ◌∷◌, ◌++◌, length, take, drop, refl, sym, ap, subst, ◌∙◌, arith, length-append}
-use Rattle.std.specs.Prelude.{IsTrue}
-use Rattle.std.proofs.lemmas.Bool.Decides.{eqb_tells}
+use Rattle.std.proofs.Common.{◌≡◌, ℕ, zero, suc, ◌+◌, ◌-◌, ◌<◌, ◌≤◌, ◌==◌, inl, inr, true, false, if◌then◌else◌, List, [], ◌∷◌, ◌++◌, length, take, drop, Some, refl, sym, ap, subst, ◌∙◌, arith, length-append}
+use Rattle.std.specs.Prelude.{IsTrue, nat_le}
+use Rattle.std.proofs.lemmas.Bool.Decides.{eqb_tells, nat_tests}
 use Rattle.std.proofs.lemmas.List.{drop-append-le, take-append-le, drop-drop, length-drop, take-append-drop}
 use Rattle.utf16_text.specs.Units.{unit_count}
 use Rattle.delta.specs.declared.Step.{Step}
@@ -9,7 +9,7 @@ use Rattle.delta.specs.Steps.{reach_of}
 use Rattle.delta.specs.Moves.{FitsText, text_after, over, transformed}
 use Rattle.delta_laws.specs.Ends.{ends_felt}
 use Rattle.delta_laws.proofs.Laws.{delta_laws}
-use Rattle.session_ops.specs.State.{Taken, taken_by}
+use Rattle.session_ops.specs.State.{Taken, taken_by, misfit, Past}
 use Rattle.revisions.specs.declared.kept.Kept.{Kept}
 use Rattle.revisions.specs.Kept.{deltas_of, made_by, LeadsTo, HaveLens}
 
@@ -68,3 +68,9 @@ past-over [] d t now h e lt = rw (← h) lt
 past-over (x ∷ xs) d t now h e lt =
     let p = delta_laws.past_end false x d t h.0 e lt in
     past-over xs (transformed false x d) (text_after x t) now h.1 p.felt p.past
+
+pub misfit-past : (x : List Step) (now : List ℕ) (len : ℕ) → unit_count now < reach_of x → len ≡ unit_count now → misfit x now ≡ Some (Past len)
+misfit-past x now len lt e =
+    let past : nat_le (reach_of x) (unit_count now) ≡ false = grind (arith, nat_tests) in
+    let is : misfit x now ≡ Some (Past (unit_count now)) = rw past refl in
+    is ∙ ap (λ k. Some (Past k)) (sym e)

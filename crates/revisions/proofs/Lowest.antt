@@ -4,11 +4,10 @@ use Rattle.std.specs.Prelude.{filter, not, ◌&&◌, IsSome}
 use Rattle.std.proofs.lemmas.Bool.Decides.{eqb_tells}
 use Rattle.notebook.specs.declared.parts.Cell.{Cell}
 use Rattle.notebook.specs.Book.{found}
-use Rattle.session_ops.specs.Work.{is_in}
+use Rattle.session_ops.specs.Work.{is_in, is_other}
 use Rattle.session_ops.specs.State.{State, Known, floor, least_floor, least_among, revision, knows_all}
 use Rattle.revisions.specs.declared.floors.Floor.{Floor}
 use Rattle.revisions.specs.Floors.{floors_of, at_zero, lowest, raised_one, raised, is_of_other}
-use Rattle.revisions.specs.Stands.{is_other}
 
 pub lowest-le : (rev : ℕ) (fs : List Floor) → lowest rev fs ≤ rev
 lowest-le rev [] = omega arith
@@ -102,3 +101,64 @@ knows-le n m cell rev =
 -- what is known stays at most the revision
 pub knowing-low : (m cell rev a b : ℕ) (ks : List Known) → rev ≤ b → a ≤ b → ((n : ℕ) → floor n cell ks ≤ a) → (n : ℕ) → floor n cell (ks ++ record { client = m; cell = cell; rev = rev } ∷ []) ≤ b
 knowing-low m cell rev a b ks low up h n = omega (arith, floor-append n cell ks (record { client = m; cell = cell; rev = rev } ∷ []), knows-le n m cell rev, h n)
+
+-- a client that has nothing else
+pub zero-floors : (cell : ℕ) (ks : List Known) (ns : List ℕ) → ((n : ℕ) → floor n cell ks ≡ 0) → floors_of cell ks ns ≡ at_zero ns
+zero-floors cell ks [] h = refl
+zero-floors cell ks (n ∷ ns) h = rw (h n, zero-floors cell ks ns h) refl
+
+-- who has left has no floor
+pub left-floors : (m cell : ℕ) (ks : List Known) (ns : List ℕ) → floors_of cell ks (filter (is_other m) ns) ≡ filter (is_of_other m) (floors_of cell ks ns)
+left-floors m cell ks [] = refl
+left-floors m cell ks (n ∷ ns) =
+    elim (n == m)
+    as (λ b. floors_of cell ks (if not b then n ∷ filter (is_other m) ns else filter (is_other m) ns) ≡ (if not b then record { client = n; rev = floor n cell ks } ∷ filter (is_of_other m) (floors_of cell ks ns) else filter (is_of_other m) (floors_of cell ks ns)))
+    [ true ↦ left-floors m cell ks ns | false ↦ ap (λ fs. record { client = n; rev = floor n cell ks } ∷ fs) (left-floors m cell ks ns) ]
+
+-- who joins knows the revision of each live cell
+joins-other : (s : State) (n m cell : ℕ) (cs : List Cell) → m ≢ n → floor n cell (knows_all s m cs) ≡ 0
+joins-other s n m cell [] h = refl
+joins-other s n m cell (c ∷ cs) h = elim (eqb_tells m n) [ inl e ↦ absurd (h e.1) | inr e ↦ rw e.0 (joins-other s n m cell cs h) ]
+
+joins-low : (s : State) (n m cell : ℕ) (cs : List Cell) → floor n cell (knows_all s m cs) ≤ revision s cell
+joins-low s n m cell [] = omega arith
+joins-low s n m cell (c ∷ cs) =
+    elim (eqb_tells m n) [
+      | inl e ↦ (elim (eqb_tells c.id cell) [ inl g ↦ rw (e.0, g.0, g.1) (omega (arith, joins-low s n m cell cs)) | inr g ↦ rw (e.0, g.0) (joins-low s n m cell cs) ])
+      | inr e ↦ rw e.0 (joins-low s n m cell cs)
+    ]
+
+joins-own : (s : State) (m cell : ℕ) (cs : List Cell) → IsSome (found cell cs) → floor m cell (knows_all s m cs) ≡ revision s cell
+joins-own s m cell [] h = absurd (cc h)
+joins-own s m cell (c ∷ cs) h =
+    elim (eqb_tells m m) [
+      | inl e ↦ (elim (eqb_tells c.id cell) [
+        | inl g ↦ rw (e.0, g.0, g.1) (omega (arith, joins-low s m m cell cs))
+        | inr g ↦ rw (e.0, g.0) (joins-own s m cell cs (rw g.0 at h))
+      ])
+      | inr e ↦ absurd (e.1 refl)
+    ]
+
+others-floors : (s : State) (m cell : ℕ) (cs : List Cell) (ks : List Known) (ns : List ℕ) → is_in m ns ≡ false → floors_of cell (ks ++ knows_all s m cs) ns ≡ floors_of cell ks ns
+others-floors s m cell cs ks [] h = refl
+others-floors s m cell cs ks (n ∷ ns) h =
+    elim (eqb_tells n m) [
+      | inl e ↦ absurd (cc (rw e.0 at h))
+      | inr e ↦ (
+          let none : floor n cell (knows_all s m cs) ≡ 0 = joins-other s n m cell cs (λ q. e.1 (sym q)) in
+          let same : max (floor n cell ks) 0 ≡ floor n cell ks = omega arith in
+          rw (floor-append n cell ks (knows_all s m cs), none, same, others-floors s m cell cs ks ns (rw e.0 at h)) refl)
+    ]
+
+floors-last : (cell : ℕ) (ks : List Known) (ns : List ℕ) (n : ℕ) → floors_of cell ks (ns ++ n ∷ []) ≡ floors_of cell ks ns ++ record { client = n; rev = floor n cell ks } ∷ []
+floors-last cell ks [] n = refl
+floors-last cell ks (m ∷ ns) n = ap (λ fs. record { client = m; rev = floor m cell ks } ∷ fs) (floors-last cell ks ns n)
+
+pub joined-floors : (s : State) (m cell : ℕ) (cs : List Cell) (ks : List Known) (ns : List ℕ) → is_in m ns ≡ false → IsSome (found cell cs) → floor m cell ks ≤ revision s cell
+    → floors_of cell (ks ++ knows_all s m cs) (ns ++ m ∷ []) ≡ floors_of cell ks ns ++ record { client = m; rev = revision s cell } ∷ []
+joined-floors s m cell cs ks ns out live low =
+    let own : floor m cell (ks ++ knows_all s m cs) ≡ revision s cell = omega (arith, floor-append m cell ks (knows_all s m cs), joins-own s m cell cs live, low) in
+    floors-last cell (ks ++ knows_all s m cs) ns m ∙ rw (own, others-floors s m cell cs ks ns out) refl
+
+pub joined-low : (s : State) (m cell : ℕ) (cs : List Cell) (ks : List Known) → ((n : ℕ) → floor n cell ks ≤ revision s cell) → (n : ℕ) → floor n cell (ks ++ knows_all s m cs) ≤ revision s cell
+joined-low s m cell cs ks h n = omega (arith, floor-append n cell ks (knows_all s m cs), joins-low s n m cell cs, h n)

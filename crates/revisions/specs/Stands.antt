@@ -1,5 +1,5 @@
 -- What a source log holds of a session's state.
-use Rattle.std.specs.Prelude.{◌≡◌, ◌≤◌, ◌<◌, ◌==◌, ℕ, not, Bool, List, [], ◌∷◌, ◌++◌, length, take, drop, filter, Some}
+use Rattle.std.specs.Prelude.{◌≡◌, ◌≤◌, ◌<◌, ℕ, List, [], ◌∷◌, ◌++◌, length, take, drop, filter, Some}
 use Rattle.utf16_text.specs.Units.{unit_count}
 use Rattle.delta.specs.declared.Step.{Step}
 use Rattle.delta.specs.Steps.{reach_of}
@@ -9,6 +9,7 @@ use Rattle.session_ops.specs.declared.entry.Op.TheVariants.{Delta}
 use Rattle.session_ops.specs.declared.entry.Call.TheVariants.{Client}
 use Rattle.session_ops.specs.declared.entry.Reply.TheVariants.{Applied, Refused}
 use Rattle.session_ops.specs.declared.entry.Refusal.TheVariants as refusal
+use Rattle.session_ops.specs.Work.{is_other}
 use Rattle.session_ops.specs.State.{State, Known, first_source, taken_by, revision, floor, least, delta_reply, after_call}
 use Rattle.revisions.specs.declared.errors.RevError.{RevError}
 use Rattle.revisions.specs.declared.errors.RevError.TheVariants.{TooNew, TooOld, PastEnd, SplitsPair, OutOfMemory}
@@ -42,9 +43,6 @@ pub record StandsFor (s : State) (cell : ℕ) (text : List ℕ) (log : SourceLog
 -- one more thing is known of a client
 abbrev pub knowing : ℕ → ℕ → ℕ → State → State
 knowing client cell rev s = record s { known = s.known ++ record { client = client; cell = cell; rev = rev } ∷ [] }
-
-abbrev pub is_other : ℕ → ℕ → Bool
-is_other client n = not (n == client)
 
 -- a client has left
 abbrev pub without : ℕ → State → State

@@ -39,7 +39,7 @@ pub(crate) fn move_on(
     text: &Text,
 ) -> Result<Move, RevError>
     ensures { (t : List ℕ) → HaveLens t (drop from kept.now.items) → LeadsTo t (deltas_of (drop from kept.now.items)) text.now → MatchResult result
-        (IsMove (over delta.now (deltas_of (drop from kept.now.items))) text.now)
+        (λ m. IsMove (over delta.now (deltas_of (drop from kept.now.items))) text.now m × (reach_of delta.now ≤ unit_count t))
         (IsMoveCause delta.now (over delta.now (deltas_of (drop from kept.now.items))) t text.now) }
 {
     let len = len_at(kept, from, text);
