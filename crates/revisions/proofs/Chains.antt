@@ -74,3 +74,13 @@ misfit-past x now len lt e =
     let past : nat_le (reach_of x) (unit_count now) ≡ false = grind (arith, nat_tests) in
     let is : misfit x now ≡ Some (Past (unit_count now)) = rw past refl in
     is ∙ ap (λ k. Some (Past k)) (sym e)
+
+-- the present text is what the deltas make of the first
+pub leads-made : (xs : List (List Step)) (t now : List ℕ) → LeadsTo t xs now → made_by xs t ≡ now
+leads-made [] t now h = h
+leads-made (x ∷ xs) t now h = leads-made xs (text_after x t) now h.1
+
+-- a delta that fits the text on which it was made fits the present one, moved over the deltas between
+pub fits-over : (xs : List (List Step)) (d : List Step) (t now : List ℕ) → LeadsTo t xs now → FitsText d t → FitsText (over d xs) now
+fits-over [] d t now h f = subst (λ a. FitsText d a) h f
+fits-over (x ∷ xs) d t now h f = fits-over xs (transformed false x d) (text_after x t) now h.1 (delta_laws.moved false x d t h.0 f).right_fits

@@ -1,4 +1,6 @@
 pub mod Chains
 pub mod Lowest
+pub mod Others
 pub mod Raising
 pub mod Standing
+mod Worked
