@@ -1,4 +1,5 @@
 pub mod Chains
+pub mod Honest
 pub mod Lowest
 pub mod Others
 pub mod Raising

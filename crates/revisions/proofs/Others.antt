@@ -1,11 +1,10 @@
 -- What a log stands for while a session does other things.
-use Rattle.std.proofs.Common.{◌≡◌, ℕ, ◌+◌, ◌≤◌, ◌==◌, max, Bool, true, false, if◌then◌else◌, List, [], ◌∷◌, ◌++◌, Some, length, refl, sym, ap, subst, ◌∙◌, arith}
+use Rattle.std.proofs.Common.{◌≡◌, ℕ, ◌==◌, max, true, false, if◌then◌else◌, List, [], ◌∷◌, ◌++◌, Some, length, refl, sym, ap, subst, ◌∙◌, arith}
 use Rattle.std.specs.Prelude.{◌&&◌}
 use Rattle.delta.specs.declared.Step.{Step}
-use Rattle.delta.specs.Moves.{FitsText, over}
 use Rattle.notebook.specs.declared.parts.Cell.{Cell}
 use Rattle.notebook.specs.Book.{found}
-use Rattle.session_ops.specs.State.{State, Known, Taken, first_source, beginnings, taken_by, revision, floor}
+use Rattle.session_ops.specs.State.{State, Known, Taken, first_source, beginnings, taken_by, floor}
 use Rattle.revisions.specs.declared.source_log.SourceLog.{SourceLog}
 use Rattle.revisions.specs.Floors.{floors_of}
 use Rattle.revisions.specs.Kept.{made_by}

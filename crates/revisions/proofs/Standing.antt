@@ -1,7 +1,7 @@
 -- What each call of a log does to what it stands for.
-use Rattle.std.proofs.Common.{◌≡◌, ℕ, zero, suc, ◌+◌, ◌-◌, ◌<◌, ◌≤◌, ◌==◌, inl, inr, true, false, if◌then◌else◌, List, [], ◌∷◌, ◌++◌, Some, None, length, take, drop, map, refl, sym, ap, subst, ◌∙◌, arith, length-append}
-use Rattle.std.specs.Prelude.{filter, not, nat_lt, nat_le, IsSome}
-use Rattle.std.proofs.lemmas.List.{drop-append-le, take-append-le, drop-drop, length-drop, length-map}
+use Rattle.std.proofs.Common.{◌≡◌, ℕ, ◌+◌, ◌-◌, ◌<◌, ◌≤◌, true, false, List, [], ◌∷◌, ◌++◌, Some, length, take, drop, refl, sym, ap, subst, ◌∙◌, arith, length-append}
+use Rattle.std.specs.Prelude.{filter, nat_lt, IsSome}
+use Rattle.std.proofs.lemmas.List.{drop-append-le, take-append-le, drop-drop}
 use Rattle.std.proofs.lemmas.Bool.Decides.{nat_tests}
 use Rattle.utf16_text.specs.Units.{unit_count}
 use Rattle.delta.specs.declared.Step.{Step}
@@ -14,7 +14,7 @@ use Rattle.session_ops.specs.declared.entry.Call.TheVariants.{Client}
 use Rattle.session_ops.specs.declared.entry.Reply.TheVariants.{Applied, Refused, Accepted as IsAccepted}
 use Rattle.session_ops.specs.declared.entry.Refusal.TheVariants as refusal
 use Rattle.session_ops.specs.Work.{is_in}
-use Rattle.session_ops.specs.State.{State, Known, Taken, Misfit, after_call, first_source, taken_by, revision, floor, least, misfit, refusal_of, judged_by, delta_reply}
+use Rattle.session_ops.specs.State.{State, after_call, first_source, taken_by, revision, floor, least, misfit, judged_by, delta_reply}
 use Rattle.revisions.specs.declared.errors.RevError.{RevError}
 use Rattle.revisions.specs.declared.errors.RevError.TheVariants.{TooNew, TooOld, PastEnd, SplitsPair, OutOfMemory}
 use Rattle.revisions.specs.declared.floors.Floor.{Floor}
@@ -22,7 +22,7 @@ use Rattle.revisions.specs.declared.kept.Kept.{Kept}
 use Rattle.revisions.specs.declared.kept.Move.{Move}
 use Rattle.revisions.specs.declared.source_log.Accepted.{Accepted}
 use Rattle.revisions.specs.declared.source_log.SourceLog.{SourceLog}
-use Rattle.revisions.specs.Floors.{floors_of, at_zero, lowest, raised_one, raised, is_of_other}
+use Rattle.revisions.specs.Floors.{floors_of, at_zero, lowest, raised, is_of_other}
 use Rattle.revisions.specs.Kept.{deltas_of, made_by, LeadsTo, HaveLens}
 use Rattle.revisions.specs.Moved.{IsMove, IsMoveCause}
 use Rattle.revisions.specs.Stands.{Holds, IsLog, StandsFor, IsTaken, IsWithin, IsCause, IsRefused, knowing, without}
@@ -195,7 +195,7 @@ since first taken floors text log base h low =
     }
 
 -- the session's answer to a base that may be built on
-moved-reply : (s : State) (cell base : ℕ) (d : List Step) (c : Cell) → base ≤ revision s cell → least s cell ≤ base
+pub moved-reply : (s : State) (cell base : ℕ) (d : List Step) (c : Cell) → base ≤ revision s cell → least s cell ≤ base
     → delta_reply s cell base d (Some c) ≡ judged_by (revision s cell) (over d (drop base (taken_by cell s.taken))) (misfit (over d (drop base (taken_by cell s.taken))) c.source)
 moved-reply s cell base d c low up =
     let new : nat_lt (revision s cell) base ≡ false = grind (arith, nat_tests) in

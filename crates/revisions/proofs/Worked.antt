@@ -1,18 +1,15 @@
 -- The definitions at small histories, as a check of what they say.
-use Rattle.std.proofs.Common.{◌≡◌, ℕ, [], ◌∷◌, List, Some, refl}
+use Rattle.std.proofs.Common.{◌≡◌, ℕ, [], ◌∷◌, List, refl}
 use Rattle.std.specs.Prelude.{filter}
 use Rattle.delta.specs.declared.Step.{Step}
 use Rattle.delta.specs.declared.Step.TheVariants.{Retain, Insert, Delete as Erase}
-use Rattle.notebook.specs.declared.parts.Cell.{Cell}
 use Rattle.notebook.specs.Book.{untitled}
 use Rattle.session_ops.specs.declared.entry.Op.TheVariants.{Join, Delta}
 use Rattle.session_ops.specs.declared.entry.Call.{Call}
 use Rattle.session_ops.specs.declared.entry.Call.TheVariants.{Client}
-use Rattle.session_ops.specs.declared.entry.Reply.{Reply}
-use Rattle.session_ops.specs.declared.entry.Reply.TheVariants.{Applied, Refused}
+use Rattle.session_ops.specs.declared.entry.Reply.TheVariants.{Refused}
 use Rattle.session_ops.specs.declared.entry.Refusal.TheVariants.{TooNew, TooOld, PastEnd}
-use Rattle.session_ops.specs.State.{State, Known, opening, reply, after_call, taken_by, first_source, revision, least}
-use Rattle.revisions.specs.declared.floors.Floor.{Floor}
+use Rattle.session_ops.specs.State.{State, opening, reply, after_call, taken_by, first_source, revision, least}
 use Rattle.revisions.specs.Floors.{floors_of, lowest, raised, is_of_other}
 use Rattle.revisions.specs.Kept.{made_by}
 use Rattle.revisions.specs.Stands.{knowing, without}

@@ -10,7 +10,7 @@ use Rattle.session_ops.specs.declared.entry.Call.TheVariants.{Client}
 use Rattle.session_ops.specs.declared.entry.Reply.TheVariants.{Applied, Refused}
 use Rattle.session_ops.specs.declared.entry.Refusal.TheVariants as refusal
 use Rattle.session_ops.specs.Work.{is_other}
-use Rattle.session_ops.specs.State.{State, Known, first_source, taken_by, revision, floor, least, delta_reply, after_call}
+use Rattle.session_ops.specs.State.{State, first_source, taken_by, revision, floor, least, delta_reply, after_call}
 use Rattle.revisions.specs.declared.errors.RevError.{RevError}
 use Rattle.revisions.specs.declared.errors.RevError.TheVariants.{TooNew, TooOld, PastEnd, SplitsPair, OutOfMemory}
 use Rattle.revisions.specs.declared.errors.ReportError.{ReportError}

@@ -1,4 +1,4 @@
-use Rattle.std.proofs.Common.{◌≡◌, ◌<◌, ◌∙◌, ap, sym, subst, rules, drop, arith}
+use Rattle.std.proofs.Common.{◌≡◌, ◌<◌, ◌∙◌, ap, subst, rules, drop}
 use Rattle.std.specs.Prelude.{IsTrue}
 use Rattle.utf16_text.specs.Units.{unit_count}
 use Rattle.delta.specs.Steps.{reach_of}
