@@ -1,0 +1,7 @@
+pub mod Chains
+pub mod Honest
+pub mod Lowest
+pub mod Others
+pub mod Raising
+pub mod Standing
+mod Worked

@@ -1,0 +1,4 @@
+pub mod Floors
+pub mod Kept
+pub mod Moved
+pub mod Stands
