@@ -7,6 +7,8 @@ use Rattle.std.proofs.lemmas.List.{append-nil}
 use Rattle.delta.specs.declared.Step.{Step}
 use Rattle.delta.specs.Moves.{over}
 use Rattle.notebook.specs.declared.parts.Parts.{Parts}
+use Rattle.notebook.specs.declared.states.Lane.{Lane}
+use Rattle.ex_model.specs.declared.ran.Shown.{Shown}
 use Rattle.session_ops.specs.declared.entry.Op.{Op}
 use Rattle.session_ops.specs.declared.entry.Op.TheVariants.{Join as Joins, Delta, Queue}
 use Rattle.session_ops.specs.declared.entry.Call.{Call}
@@ -34,7 +36,7 @@ use Rattle.world.proofs.Keeping.{IsOthers, kept-more, kept-ops}
 use Rattle.world.proofs.Pendings.{messages-append}
 use Rattle.world.proofs.Receiving.{IsEntry, call-received}
 use Rattle.world.proofs.Editing.{edited-honest}
-use Rattle.world.proofs.Taking.{IsFront, front-of, front-reply, stranger-call, plain-queue, taken-kept}
+use Rattle.world.proofs.Taking.{IsFront, front-of, front-reply, stranger-call, plain-queue, start-call, respond-call, taken-kept}
 
 -- the state at the history's end, from the client's place on
 pub at-end : (n0 : Parts) (h : List Entry) (c : Client) → (honest : IsHonest n0 h c) → state n0 h ≡ state_from (state n0 c.seen) honest.later
@@ -45,7 +47,7 @@ pub later-replies : (n0 : Parts) (h : List Entry) (c : Client) → Legal n0 h �
 later-replies n0 h c l honest = rest-replies (opening n0) [] c.seen honest.later (subst (HasReplies (opening n0) []) honest.behind l.replies)
 
 -- one more entry that is another's
-honest-more : (n0 : Parts) (h : List Entry) (c : Client) (e : Entry) → ((k : ℕ) → IsOthers (state n0 h) c.number k e) → IsHonest n0 h c → IsHonest n0 (h ++ e ∷ []) c
+pub honest-more : (n0 : Parts) (h : List Entry) (c : Client) (e : Entry) → ((k : ℕ) → IsOthers (state n0 h) c.number k e) → IsHonest n0 h c → IsHonest n0 (h ++ e ∷ []) c
 honest-more n0 h c e others honest =
     record {
       later = honest.later ++ e ∷ [];
@@ -54,8 +56,19 @@ honest-more n0 h c e others honest =
       kept = λ k. kept-more (state n0 c.seen) honest.later c.number k c.outbox (pending_of k c.pending) e (subst (λ s. IsOthers s c.number k e) (at-end n0 h c honest) (others k)) (honest.kept k);
     }
 
+-- an entry of an evaluator, under whatever number, leaves how a client stands as it is
+pub start-honest : (n0 : Parts) (h : List Entry) (c : Client) (by : ℕ) (lane : Lane) (answer : Reply) → IsHonest n0 h c → IsHonest n0 (h ++ record { by = by; call = Start lane; reply = answer } ∷ []) c
+start-honest n0 h c by lane answer is =
+    honest-more n0 h c (record { by = by; call = Start lane; reply = answer })
+    (λ k. let both : (is_own_call c.number k (Start lane) answer ≡ false) × (floor c.number k (after_call (state n0 h) (Start lane) answer).known ≡ floor c.number k (state n0 h).known) = start-call (state n0 h) c.number k lane answer in record { other = both.0; same = both.1 }) is
+
+pub respond-honest : (n0 : Parts) (h : List Entry) (c : Client) (by eval : ℕ) (shown : Shown) (answer : Reply) → IsHonest n0 h c → IsHonest n0 (h ++ record { by = by; call = Respond eval shown; reply = answer } ∷ []) c
+respond-honest n0 h c by eval shown answer is =
+    honest-more n0 h c (record { by = by; call = Respond eval shown; reply = answer })
+    (λ k. let both : (is_own_call c.number k (Respond eval shown) answer ≡ false) × (floor c.number k (after_call (state n0 h) (Respond eval shown) answer).known ≡ floor c.number k (state n0 h).known) = respond-call (state n0 h) c.number k eval shown answer in record { other = both.0; same = both.1 }) is
+
 -- another outbox with the same messages
-honest-ops : (n0 : Parts) (h : List Entry) (c : Client) (ops : List Op) → ((k : ℕ) → messages_for k ops ≡ messages_for k c.outbox) → IsHonest n0 h c → IsHonest n0 h (record c { outbox = ops })
+pub honest-ops : (n0 : Parts) (h : List Entry) (c : Client) (ops : List Op) → ((k : ℕ) → messages_for k ops ≡ messages_for k c.outbox) → IsHonest n0 h c → IsHonest n0 h (record c { outbox = ops })
 honest-ops n0 h c ops same honest =
     record { later = honest.later; behind = honest.behind; since = honest.since; kept = λ k. kept-ops (state n0 c.seen) honest.later c.number k c.outbox ops (pending_of k c.pending) (same k) (honest.kept k) }
 
@@ -111,7 +124,7 @@ join-refused w n honest e =
     let x : Entry = next_entry w (ByClient n Joins) in
     all-from-all (IsHonest w.opening w.history) (IsHonest w.opening (w.history ++ x ∷ [])) w.clients (λ c h. honest-more w.opening w.history c x (λ k. refused-others w n c.number k e) h) honest
 
-new-honest : (n0 : Parts) (h : List Entry) (n : ℕ) → Legal n0 h → is_in n (state n0 h).joined ≡ true → IsHonest n0 h (joined_client n h)
+pub new-honest : (n0 : Parts) (h : List Entry) (n : ℕ) → Legal n0 h → is_in n (state n0 h).joined ≡ true → IsHonest n0 h (joined_client n h)
 new-honest n0 h n l mine = record { later = []; behind = sym (append-nil h); since = mine; kept = λ k. record { gone = refl; known = floor-within n0 h n k l; none = tt } }
 
 -- a number whose joining was accepted has joined
@@ -226,7 +239,7 @@ call-joined s call answer n e = e
 still-joined : (s : State) (e : Entry) (n : ℕ) → is_in n s.joined ≡ true → is_in n (after s e).joined ≡ true
 still-joined s e n mine = call-joined s e.call e.reply n mine
 
-entry-honest : (n0 : Parts) (h : List Entry) (c : Client) (e : Entry) (es : List Entry) → Legal n0 h → (is : IsHonest n0 h c) → is.later ≡ e ∷ es → IsHonest n0 h (received_entry n0 c e)
+pub entry-honest : (n0 : Parts) (h : List Entry) (c : Client) (e : Entry) (es : List Entry) → Legal n0 h → (is : IsHonest n0 h c) → is.later ≡ e ∷ es → IsHonest n0 h (received_entry n0 c e)
 entry-honest n0 h c e es l is more =
     let s : State = state n0 c.seen in
     let c1 : Client = record c { seen = c.seen ++ e ∷ [] } in

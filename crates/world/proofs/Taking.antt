@@ -9,13 +9,15 @@ use Rattle.delta.specs.declared.Step.{Step}
 use Rattle.delta.specs.Moves.{FitsText, over}
 use Rattle.notebook.specs.declared.parts.Cell.{Cell}
 use Rattle.notebook.specs.Book.{cells, found}
+use Rattle.notebook.specs.declared.states.Lane.{Lane}
+use Rattle.ex_model.specs.declared.ran.Shown.{Shown}
 use Rattle.session_ops.specs.declared.entry.Op.{Op}
 use Rattle.session_ops.specs.declared.entry.Op.TheVariants.{Join, Delta, Queue}
 use Rattle.session_ops.specs.declared.entry.Call.{Call}
-use Rattle.session_ops.specs.declared.entry.Call.TheVariants.{Client as ByClient}
+use Rattle.session_ops.specs.declared.entry.Call.TheVariants.{Client as ByClient, Start, Respond}
 use Rattle.session_ops.specs.declared.entry.Refusal.TheVariants.{NotJoined, AlreadyJoined, TooNew, TooOld}
 use Rattle.session_ops.specs.declared.entry.Reply.{Reply}
-use Rattle.session_ops.specs.declared.entry.Reply.TheVariants.{Accepted, Applied, Refused}
+use Rattle.session_ops.specs.declared.entry.Reply.TheVariants.{Accepted, Applied, Started, Stored, Refused}
 use Rattle.session_ops.specs.declared.entry.Entry.{Entry}
 use Rattle.session_ops.specs.State.{State, Job, Known, after, after_call, state_from, taken_by, revision, floor, least, reply, delta_reply, judged_by, misfit, knows_all, HasReplies}
 use Rattle.session_ops.specs.Work.{is_in}
@@ -114,6 +116,15 @@ stranger-call s m n k op answer ne = (refl, refl)
 pub plain-queue : (s : State) (m n k cell : ℕ) (answer : Reply) → (is_own_call n k (ByClient m (Queue cell)) answer ≡ false) × (floor n k (after_call s (ByClient m (Queue cell)) answer).known ≡ floor n k s.known)
 plain-queue s m n k cell Accepted = (refl, refl)
 plain-queue s m n k cell answer = (refl, refl)
+
+-- an evaluator's call
+pub start-call : (s : State) (n k : ℕ) (lane : Lane) (answer : Reply) → (is_own_call n k (Start lane) answer ≡ false) × (floor n k (after_call s (Start lane) answer).known ≡ floor n k s.known)
+start-call s n k lane (Started eval cell) = (refl, refl)
+start-call s n k lane answer = (refl, refl)
+
+pub respond-call : (s : State) (n k eval : ℕ) (shown : Shown) (answer : Reply) → (is_own_call n k (Respond eval shown) answer ≡ false) × (floor n k (after_call s (Respond eval shown) answer).known ≡ floor n k s.known)
+respond-call s n k eval shown (Stored e) = (refl, refl)
+respond-call s n k eval shown answer = (refl, refl)
 
 -- the client's own delta was taken: its cell waits for it to come back
 taken-same : (s : State) (later : List Entry) (n j base : ℕ) (d : List Step) (ops : List Op) (o : Option Pending) (e : Entry) (rev : ℕ) (x : List Step) → IsFront s later n j base d ops o → e.call ≡ ByClient n (Delta j base d) → e.reply ≡ Applied rev x → rev ≡ revision (state_from s later) j + 1 → x ≡ over d (drop base (taken_by j (state_from s later).taken)) → IsKept s (later ++ e ∷ []) n j ops o
