@@ -1,5 +1,5 @@
 -- A worked run, by computation: a check of the definitions.
-use Rattle.std.proofs.Common.{◌≡◌, ℕ, List, [], ◌∷◌, map, length, None, refl, codes}
+use Rattle.std.proofs.Common.{◌≡◌, ℕ, List, [], ◌∷◌, map, length, take, None, refl, codes}
 use Rattle.delta.specs.declared.Step.TheVariants as step
 use Rattle.notebook.specs.declared.parts.Cell.{Cell}
 use Rattle.notebook.specs.declared.parts.Parts.{Parts}
@@ -47,6 +47,13 @@ first_day-texts = refl
 
 both_edit-cursors : cursors (run book both_edit) ≡ 5 ∷ 5 ∷ []
 both_edit-cursors = refl
+
+-- before the server has taken anything, and after the second client has received the first one's edit
+both_edit-apart : texts (run book (take 6 both_edit)) ≡ ([] ∷ codes "Xab" ∷ []) ∷ ([] ∷ codes "YabZ" ∷ []) ∷ []
+both_edit-apart = refl
+
+both_edit-moved : texts (run book (take 9 both_edit)) ≡ ([] ∷ codes "Xab" ∷ []) ∷ ([] ∷ codes "XYabZ" ∷ []) ∷ []
+both_edit-moved = refl
 
 both_edit-texts : texts (run book both_edit) ≡ ([] ∷ codes "XYabZ" ∷ []) ∷ ([] ∷ codes "XYabZ" ∷ []) ∷ []
 both_edit-texts = refl
