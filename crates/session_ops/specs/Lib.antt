@@ -1,3 +1,4 @@
 pub mod Same
 pub mod State
 pub mod Work
+pub mod Snapshot

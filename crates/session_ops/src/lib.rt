@@ -6,5 +6,7 @@
 #![tactic(auto)]
 
 mod entry;
+mod snapshot;
 
 pub use entry::{Call, Entry, Op, Refusal, Reply};
+pub use snapshot::Snapshot;
