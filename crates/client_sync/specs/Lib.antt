@@ -1,2 +1,4 @@
 pub mod Causes
 pub mod Client
+pub mod Fits
+pub mod Stands

@@ -4,6 +4,10 @@
 //! holds, what an edit makes of it, and what each received entry does.
 #![tactic(auto)]
 
+mod client;
 mod edit_error;
+mod pending;
 
+pub use client::Client;
 pub use edit_error::EditError;
+pub use pending::{PendingEdits, Unconfirmed};

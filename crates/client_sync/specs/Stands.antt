@@ -1,0 +1,73 @@
+-- What a client in memory stands for.
+use Rattle.std.specs.Prelude.{◌≡◌, ℕ, List, [], ◌∷◌, length, map, Option, Some, None}
+use Rattle.std.specs.Option.{option_copied}
+use Rattle.notebook.specs.declared.parts.Cell.{Cell}
+use Rattle.notebook.specs.declared.parts.Parts.{Parts}
+use Rattle.notebook.specs.Book.{cells, found}
+use Rattle.notebook.specs.Rules.{AreDistinct}
+use Rattle.session_ops.specs.declared.entry.Op.{Op}
+use Rattle.session_ops.specs.declared.entry.Op.TheVariants.{Join, Delta, Queue}
+use Rattle.session_ops.specs.declared.entry.Call.{Call}
+use Rattle.session_ops.specs.declared.entry.Call.TheVariants.{Client as ByClient}
+use Rattle.session_ops.specs.declared.entry.Reply.{Reply}
+use Rattle.session_ops.specs.declared.entry.Reply.TheVariants.{Applied}
+use Rattle.session_ops.specs.declared.entry.Entry.{Entry}
+use Rattle.session_ops.specs.State.{reply}
+use Rattle.session_ops.specs.Snapshot.{revisions_of}
+use Rattle.client_sync.specs.Client.{Client as Holder, Pending, pending_of, held, delivered}
+use Rattle.client_sync.specs.Fits.{FitsHere}
+use Rattle.client_sync.specs.declared.client.Client.{Client}
+use Rattle.client_sync.specs.declared.pending.PendingEdits.{PendingEdits}
+use Rattle.client_sync.specs.declared.pending.Unconfirmed.{Unconfirmed}
+
+-- a cell's unconfirmed edits
+abbrev pub pending_in : Unconfirmed → Pending
+pending_in u = record { cell = u.cell; flight = u.flight; buffer = u.buffer }
+
+abbrev pub pending_cell : Pending → ℕ
+pending_cell p = p.cell
+
+-- the client in memory stands for this one: its notebook is what this one holds, its revisions are those at the last delivery, and all that is pending fits there
+pub record Mirrors (n0 : Parts) (c : Client) (m : Holder) : Type 0 where
+  pub number : c.number ≡ m.number
+  pub cursor : c.cursor ≡ length m.seen
+  pub book : c.book ≡ held n0 m
+  pub revs : c.revs ≡ revisions_of (delivered n0 m) (cells (delivered n0 m).book)
+  pub pending : map pending_in c.pending ≡ m.pending
+  pub outbox : c.outbox.items ≡ m.outbox
+  pub nothing : c.nothing ≡ []
+  pub apart : AreDistinct (map pending_cell m.pending)
+  pub fits : (k : ℕ) (p : Pending) → pending_of k m.pending ≡ Some p → FitsHere (delivered n0 m) k p
+
+-- an operation that may be posted as it is: joins and deltas can't be
+abbrev pub IsPostable : Op → Type 0
+IsPostable Join = ⊥
+IsPostable (Delta cell base d) = ⊥
+IsPostable (Queue cell) = Unit {0}
+
+-- a delta of the client's own that came back is what it has in flight
+abbrev pub IsOwnFlight : Holder → Call → Reply → Type 0
+IsOwnFlight m (ByClient n (Delta cell base d)) (Applied rev x) = n ≡ m.number → (p : Pending) × ((pending_of cell m.pending ≡ Some p) × (x ≡ p.flight))
+IsOwnFlight m call answer = Unit {0}
+
+-- the next entry of the history, as the session answered it
+pub record IsNextEntry (n0 : Parts) (m : Holder) (e : Entry) : Type 0 where
+  pub right : e.reply ≡ reply (delivered n0 m) e.call
+  pub own : IsOwnFlight m e.call e.reply
+
+-- the message at the outbox's front was taken out, if there was one
+abbrev pub HasTaken : Parts → Holder → Client → Option Op → Type 0
+HasTaken n0 m new None = (m.outbox ≡ []) × Mirrors n0 new m
+HasTaken n0 m new (Some op) = (ops : List Op) × ((m.outbox ≡ op ∷ ops) × Mirrors n0 new (record m { outbox = ops }))
+
+-- what is shown of a cell's pending edits: nothing in flight and an empty buffer where there are none
+abbrev pub IsViewOf : PendingEdits → Option Pending → Type 0
+IsViewOf v None = (v.inflight ≡ None) × (v.buffer.now ≡ [])
+IsViewOf v (Some p) = (option_copied v.inflight ≡ Some p.flight) × (v.buffer.now ≡ p.buffer)
+
+-- the same, for a cell that lives, and nothing for a number that no live cell has
+abbrev pub IsPendingOf : Option Cell → Option PendingEdits → Option Pending → Type 0
+IsPendingOf None None o = Unit {0}
+IsPendingOf None (Some v) o = ⊥
+IsPendingOf (Some c) None o = ⊥
+IsPendingOf (Some c) (Some v) o = IsViewOf v o

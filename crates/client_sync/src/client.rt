@@ -1,0 +1,134 @@
+//! A client in memory.
+ghost use Rattle.std.specs.Prelude.{◌≡◌, ℕ, ◌∷◌, [], List, IfOk, OnOk, OnErr, MatchResult, length, slice_get};
+ghost use Rattle.std.specs.Option.{option_copied};
+ghost use Rattle.notebook.specs.declared.parts.Parts.{Parts};
+ghost use Rattle.notebook.specs.Book.{cells, found};
+ghost use Rattle.session_ops.specs.declared.entry.Entry.{Entry};
+ghost use Rattle.session_ops.specs.State.{state};
+ghost use Rattle.session_ops.specs.Snapshot.{IsSnapshot, revisions_of};
+ghost use Rattle.client_sync.specs.Client.{Client as Holder, Done, edited, held, delivered, joined_client, with_message, received_entry, pending_of};
+ghost use Rattle.client_sync.specs.Causes.{IsEditCause};
+ghost use Rattle.client_sync.specs.Stands.{Mirrors, IsPostable, IsNextEntry, HasTaken, IsPendingOf};
+
+use crate::edit_error::EditError;
+use crate::pending::{PendingEdits, Unconfirmed};
+use delta::Delta;
+use notebook::{CellId, Notebook};
+use plain_list::Items;
+use session_ops::{Entry, Op, Snapshot};
+use std::alloc::{AllocError, Global};
+use std::collections::VecDeque;
+
+/// A notebook as of the client's last delivery, with the client's own unconfirmed edits done to it; and
+/// the messages that the server hasn't taken yet.
+#[derive(Drop)]
+pub struct Client {
+    alloc: Global,
+    number: u32,
+    cursor: u64,
+    book: Notebook,
+    revs: Items<(CellId, u64)>,
+    pending: Items<Unconfirmed>,
+    outbox: VecDeque<Op>,
+    nothing: Delta,
+}
+
+impl Client {
+    /// A client that has just joined, with the snapshot of the session as it then was.
+    pub fn join(alloc: Global, number: u32, snapshot: Snapshot) -> Result<Client, AllocError>
+        ensures { (n0 : Parts) (seen : List Entry) → IsSnapshot (state n0 seen) (length seen) snapshot → IfOk result (λ c. Mirrors n0 c (joined_client number seen)) }
+    {
+        Err(AllocError)
+    }
+
+    /// Edits a cell of the client's own notebook, by a delta over the client's own text, in UTF-16
+    /// units. Where nothing of the cell is in flight the edit is posted; else it waits in the cell's
+    /// buffer. An edit without steps does nothing.
+    ///
+    /// It answers, in this order: `NoCell`; `EditTooLong` exactly above 65,536 inserted units; `PastEnd`
+    /// or `SplitsPair` exactly where the delta doesn't fit the client's own text. Nothing is then
+    /// changed. Nothing is said of the client after want of memory.
+    pub fn edit(&mut self, cell: CellId, delta: &Delta) -> Result<(), EditError>
+        ensures edited { (n0 : Parts) (m : Holder) → Mirrors n0 self.old m → MatchResult result
+            (λ _. (m' : Holder) × ((edited n0 m cell delta.now ≡ Done m') × Mirrors n0 self.new m'))
+            (λ e. IsEditCause (edited n0 m cell delta.now) e) }
+        ensures refused { OnErr result (self.new ≡ self.old) }
+    {
+        Err(EditError::OutOfMemory)
+    }
+
+    /// Puts a message at the outbox's end. After want of memory nothing is changed.
+    pub fn post(&mut self, op: Op) -> Result<(), AllocError>
+        requires { IsPostable op }
+        ensures posted { (n0 : Parts) (m : Holder) → Mirrors n0 self.old m → OnOk result (Mirrors n0 self.new (with_message m op)) }
+        ensures err { OnErr result (self.new ≡ self.old) }
+    {
+        Err(AllocError)
+    }
+
+    /// The message at the outbox's front; `None` exactly where the outbox is empty. Takes no memory.
+    pub fn outbox_front(&self) -> Option<&Op>
+        ensures { option_copied result ≡ slice_get self.now.outbox.items 0 }
+    {
+        self.outbox.front()
+    }
+
+    /// The number of messages in the outbox. Takes no memory.
+    pub fn outbox_len(&self) -> u64
+        ensures { (n0 : Parts) (m : Holder) → Mirrors n0 self.now m → result ≡ length m.outbox }
+    {
+        self.outbox.len() as u64
+    }
+
+    /// Takes the message at the outbox's front out; `None` exactly where the outbox is empty. Takes no
+    /// memory.
+    pub fn take_front(&mut self) -> Option<Op>
+        ensures { (n0 : Parts) (m : Holder) → Mirrors n0 self.old m → HasTaken n0 m self.new result }
+    {
+        self.outbox.pop_front()
+    }
+
+    /// Receives the next entry of the history. A client's own delta that came back ends what was in
+    /// flight, and a buffer that isn't empty is posted; another's delta moves what is pending for its
+    /// cell, and goes first in every tie. Nothing is said of the client after want of memory.
+    pub fn receive(&mut self, entry: &Entry) -> Result<(), AllocError>
+        ensures { (n0 : Parts) (m : Holder) → Mirrors n0 self.old m → IsNextEntry n0 m entry.now → OnOk result (Mirrors n0 self.new (received_entry n0 m entry.now)) }
+    {
+        Err(AllocError)
+    }
+
+    /// The client's number. Takes no memory.
+    pub fn number(&self) -> u32
+        ensures { (n0 : Parts) (m : Holder) → Mirrors n0 self.now m → result ≡ m.number }
+    {
+        self.number
+    }
+
+    /// How many entries of the history the client has received. Takes no memory.
+    pub fn cursor(&self) -> u64
+        ensures { (n0 : Parts) (m : Holder) → Mirrors n0 self.now m → result ≡ length m.seen }
+    {
+        self.cursor
+    }
+
+    /// What the client holds. Takes no memory.
+    pub fn book(&self) -> &Notebook
+        ensures { (n0 : Parts) (m : Holder) → Mirrors n0 self.now m → result.now ≡ held n0 m }
+    {
+        &self.book
+    }
+
+    /// The revision of each live cell at the client's last delivery, in notebook order. Takes no memory.
+    pub fn revs(&self) -> &[(CellId, u64)]
+        ensures { (n0 : Parts) (m : Holder) → Mirrors n0 self.now m → result.now ≡ revisions_of (delivered n0 m) (cells (delivered n0 m).book) }
+    {
+        self.revs.as_slice()
+    }
+
+    /// What is pending for a cell; `None` exactly where the client has no such cell. Takes no memory.
+    pub fn pending(&self, cell: CellId) -> Option<PendingEdits<'_>>
+        ensures { (n0 : Parts) (m : Holder) → Mirrors n0 self.now m → IsPendingOf (found cell (cells (delivered n0 m).book)) result (pending_of cell m.pending) }
+    {
+        None
+    }
+}
