@@ -12,3 +12,4 @@ pub mod Paths
 pub mod Walking
 pub mod Ready
 pub mod Evaluating
+pub mod Stub

@@ -20,6 +20,10 @@ use Rattle.main_lane.specs.Reads.{AreTold}
 use Rattle.main_lane.specs.Contexts.{IsContext}
 use Rattle.main_lane.specs.Judging.{IsPlaceOfNext}
 use Rattle.main_lane.specs.Marks.{AreMarks}
+use Rattle.main_lane.specs.Handed.{IsHandedOut}
+use Rattle.main_lane.specs.declared.lane.PlainJob.{PlainJob}
+use Rattle.ex_model.specs.declared.ran.Ran.{Ran}
+use Rattle.session_ops.specs.Work.{Running}
 
 -- a queued number is that of a cell of the main lane, and no cell before it failed
 abbrev pub IsHopefulOne : Parts → Work → ℕ → Type 0
@@ -85,3 +89,22 @@ found_at n ms at = cell_of n (slice_get ms at)
 -- the cell of the next place in the notebook
 abbrev pub IsNext : Parts → List Mark → ℕ → Cell → Type 0
 IsNext n ms at c = IsPlaceOfNext ms (Some at) × (found_at n ms at ≡ Some c)
+
+-- an evaluation of the cell that may start was handed out, under the next number
+pub record HasStarted (n : Parts) (w : Work) (job : PlainJob) (new : MainLane) : Type 0 where
+  pub may : may_start n w Main ≡ Some job.cell
+  pub eval : job.eval ≡ w.started + 1
+  pub handed : IsHandedOut new job
+  pub tracks : Tracks n (swept n (begun n Main job.eval job.cell w)) new
+
+-- the same; where no cell may start nothing was changed
+abbrev pub HasTriedStart : Parts → Work → MainLane → Option PlainJob → Type 0
+HasTriedStart n w new None = (may_start n w Main ≡ None) × Tracks n w new
+HasTriedStart n w new (Some job) = HasStarted n w job new
+
+-- the answer of the running evaluation was kept; it shows what one thread gives along the path that was read
+pub record HasFinished (n : Parts) (w : Work) (job : PlainJob) (ran : Ran) (new : MainLane) : Type 0 where
+  pub running : Running
+  pub runs : running_eval w job.eval ≡ Some running
+  pub along : ShowsAlong running.path ran.shown
+  pub tracks : Tracks n (swept n (stored ran.shown w (running_eval w job.eval))) new

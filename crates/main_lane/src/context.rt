@@ -14,7 +14,7 @@ use ex_model::{Bindings, Outcome, Ran};
 use std::alloc::{AllocError, Global};
 
 /// The steps that one cell's evaluation may take.
-pub(crate) const STEPS: u64 = 200_000;
+pub const STEPS: u64 = 200_000;
 
 /// The places of a path's reads, and the bindings after it.
 #[derive(Drop)]

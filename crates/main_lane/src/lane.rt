@@ -1,5 +1,9 @@
 //! The main lane over a notebook without branches.
-ghost use Rattle.std.specs.Prelude.{◌≡◌, ◌<◌, ℕ, List, [], ◌∷◌, ◌++◌, None, Some, IfOk, OnOk, false, length};
+ghost use Rattle.std.specs.Prelude.{◌≡◌, ◌<◌, ℕ, List, [], ◌∷◌, ◌++◌, None, Some, IfOk, OnOk, OnErr, false, length};
+ghost use Rattle.std.specs.Str.{encode_utf8_all};
+ghost use Rattle.ex_model.specs.Along.{MeansInCell};
+ghost use Rattle.main_lane.specs.Handed.{IsHandedOut};
+ghost use Rattle.main_lane.specs.declared.lane.PlainJob.{PlainJob};
 ghost use Rattle.notebook.specs.declared.parts.Parts.{Parts};
 ghost use Rattle.notebook.specs.declared.states.Lane.TheVariants.{Main};
 ghost use Rattle.notebook.specs.Book.{with_source};
@@ -7,7 +11,7 @@ ghost use Rattle.notebook.specs.Flow.{lane_of, IsUnbranched, code_cells};
 ghost use Rattle.std.specs.Option.{option_copied};
 ghost use Rattle.notebook.specs.Validity.{status_by};
 ghost use Rattle.session_ops.specs.Work.{Work, no_work, with_number, failed_ancestor, may_start, swept, is_idle};
-ghost use Rattle.main_lane.specs.Tracks.{Tracks, HasTried, HasEvaluated, IsRow, IsNext};
+ghost use Rattle.main_lane.specs.Tracks.{Tracks, HasTried, HasEvaluated, HasTriedStart, HasFinished, IsRow, IsNext};
 ghost use Rattle.main_lane.specs.Judging.{new_marks, IsPlaceOfNext, validity_of_mark, shown_of_last};
 ghost use Rattle.main_lane.specs.Lines.{main_line};
 
@@ -18,8 +22,9 @@ use crate::marks::{
 };
 use crate::reads::{Read, compare_all};
 use ex_machine::run;
-use ex_model::Shown;
+use ex_model::{Bindings, Ran, Shown};
 use notebook::{Cell, CellId, Kind, Notebook, Parts, Status, Validity};
+use utf16_text::Text;
 use std::alloc::{AllocError, Global};
 
 /// The cells of the main lane with what is asked and known of each, the reads of all evaluations that
@@ -37,6 +42,16 @@ pub struct Evaluated {
     pub eval: u64,
     pub cell: CellId,
     pub shown: Shown,
+}
+
+/// An evaluation that was handed out: its number, counted from 1, its cell, the source to evaluate, and
+/// the bindings over which it is to be evaluated.
+#[derive(Debug, Drop)]
+pub struct PlainJob {
+    pub eval: u64,
+    pub cell: CellId,
+    pub source: Text,
+    pub base: Bindings,
 }
 
 /// What is known of one cell of the lane. `shown` is what its last evaluation showed, also where that
@@ -118,6 +133,28 @@ impl MainLane {
             return None;
         }
         first_wanted(&self.marks)
+    }
+
+    /// How many evaluations were started. Takes no memory.
+    pub fn started(&self) -> u64
+        ensures { (n : Parts) (w : Work) → Tracks n w self.now → result ≡ w.started }
+    {
+        self.reads.len() as u64
+    }
+
+    /// Hands out the evaluation of the cell that may be evaluated next. `None` exactly where no cell may.
+    /// After want of memory nothing has changed.
+    pub fn start(&mut self, alloc: Global, book: &Notebook) -> Result<Option<PlainJob>, AllocError>
+        ensures ok { (w : Work) → Tracks book.now w self.old → IfOk result (HasTriedStart book.now w self.new) }
+        ensures err { (w : Work) → Tracks book.now w self.old → OnErr result (Tracks book.now w self.new) }
+    {
+        Err(AllocError)
+    }
+
+    /// Keeps the answer of the evaluation that was handed out. Never refuses.
+    pub fn finish(&mut self, alloc: Global, ran: Ran)
+        ensures { (n : Parts) (w : Work) (job : PlainJob) → Tracks n w self.old → IsHandedOut self.old job → MeansInCell (encode_utf8_all job.source) job.base ran → HasFinished n w job ran self.new }
+    {
     }
 
     /// Evaluates the cell that may be evaluated next over the bindings after the cells before it, and

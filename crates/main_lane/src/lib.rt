@@ -13,4 +13,5 @@ mod reads;
 #[cfg(test)]
 mod tests;
 
-pub use lane::{Evaluated, MainLane, Row};
+pub use context::STEPS;
+pub use lane::{Evaluated, MainLane, PlainJob, Row};
