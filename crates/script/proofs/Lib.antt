@@ -1,7 +1,6 @@
 pub mod Blanks
 pub mod Cuts
-pub mod Forms
-pub mod Loop
-pub mod Plays
-pub mod Reading
+pub mod Following
+pub mod Numbers
+pub mod Spelling
 mod Worked
