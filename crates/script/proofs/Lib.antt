@@ -1,6 +1,8 @@
 pub mod Blanks
 pub mod Cuts
 pub mod Following
+pub mod Loop
 pub mod Numbers
+pub mod Reading
 pub mod Spelling
 mod Worked
