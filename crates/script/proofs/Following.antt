@@ -16,8 +16,8 @@ use Rattle.script.proofs.Numbers.{kept-at, last-at, seen-old, seen-new, names-ol
 pub next-none : (names : List (List ℕ)) (word rest : List ℕ) → Tells (IsPlainLine word rest) None → ((client : ℕ) → ¬ (HasNumber names (first_word rest) client)) → (line : ScriptLine) → ¬ (IsNextLine names word rest line)
 next-none names word rest plain none line is =
     elim (client_of line) as (λ c. client_of line ≡ c → IsNextRest names rest c line → ⊥) [
-      None ↦ λ e r. plain line (record { word_is = is.0; client = e; end_is = r })
-    | Some client ↦ λ e r. none client r.0
+      | None ↦ λ e r. plain line (record { word_is = is.0; client = e; end_is = r })
+      | Some client ↦ λ e r. none client r.0
     ] refl is.1
 
 client-there : (names : List (List ℕ)) (word rest : List ℕ) (client : ℕ) (line : ScriptLine) → HasNumber names (first_word rest) client → IsClientLine word client (after_word rest) line → IsNextLine names word rest line
@@ -26,8 +26,8 @@ client-there names word rest client line has is = (is.word_is, subst (λ c. IsNe
 client-back : (names : List (List ℕ)) (word rest : List ℕ) (client : ℕ) (line : ScriptLine) → Differ names → Tells (IsPlainLine word rest) None → HasNumber names (first_word rest) client → IsNextLine names word rest line → IsClientLine word client (after_word rest) line
 client-back names word rest client line differ plain has is =
     elim (client_of line) as (λ c. client_of line ≡ c → IsNextRest names rest c line → IsClientLine word client (after_word rest) line) [
-      None ↦ λ e r. absurd (plain line (record { word_is = is.0; client = e; end_is = r }))
-    | Some other ↦ λ e r. record { word_is = is.0; client = e ∙ ap Some (number-same names (first_word rest) other client differ r.0 has); end_is = r.1 }
+      | None ↦ λ e r. absurd (plain line (record { word_is = is.0; client = e; end_is = r }))
+      | Some other ↦ λ e r. record { word_is = is.0; client = e ∙ ap Some (number-same names (first_word rest) other client differ r.0 has); end_is = r.1 }
     ] refl is.1
 
 -- no line without a client, and the name has a number

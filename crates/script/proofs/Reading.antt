@@ -140,20 +140,20 @@ Agree names names' seen = (place : ℕ) → place < seen → slice_get names pla
 client-same : (names names' : List (List ℕ)) (seen : ℕ) (word : List ℕ) (client client' : ℕ) → Differ names → Differ names' → Agree names names' seen → client ≤ seen → client' ≤ seen → slice_get names client ≡ Some word → slice_get names' client' ≡ Some word → client ≡ client'
 client-same names names' seen word client client' differ differ' agree next next' at at' =
     elim (nat_lt client seen) as (λ b. nat_lt client seen ≡ b → client ≡ client') [
-      true ↦ λ t. (let old : client < seen = grind (arith, nat_tests) in differ' client client' word (sym (agree client old) ∙ at) at')
-    | false ↦ λ f. (
-        let new : client ≡ seen = grind (arith, nat_tests) in
-        elim (nat_lt client' seen) as (λ b. nat_lt client' seen ≡ b → client ≡ client') [
-          true ↦ λ t. (let old : client' < seen = grind (arith, nat_tests) in differ client client' word at (agree client' old ∙ at'))
-        | false ↦ λ g. grind (arith, nat_tests)
-        ] refl)
+      | true ↦ λ t. (let old : client < seen = grind (arith, nat_tests) in differ' client client' word (sym (agree client old) ∙ at) at')
+      | false ↦ λ f. (
+          let new : client ≡ seen = grind (arith, nat_tests) in
+          elim (nat_lt client' seen) as (λ b. nat_lt client' seen ≡ b → client ≡ client') [
+            | true ↦ λ t. (let old : client' < seen = grind (arith, nat_tests) in differ client client' word at (agree client' old ∙ at'))
+            | false ↦ λ g. grind (arith, nat_tests)
+          ] refl)
     ] refl
 
 agree-with : (names names' : List (List ℕ)) (seen : ℕ) (word : List ℕ) (client : ℕ) → Agree names names' seen → slice_get names client ≡ Some word → slice_get names' client ≡ Some word → Agree names names' (seen_with seen (Some client))
 agree-with names names' seen word client agree at at' place less =
     elim (place == client) as (λ b. (place == client) ≡ b → slice_get names place ≡ slice_get names' place) [
-      true ↦ λ t. (let e : place ≡ client = grind (arith, nat_tests) in ap (λ k. slice_get names k) e ∙ at ∙ sym at' ∙ ap (λ k. slice_get names' k) (sym e))
-    | false ↦ λ f. agree place (grind (arith, nat_tests, less, f))
+      | true ↦ λ t. (let e : place ≡ client = grind (arith, nat_tests) in ap (λ k. slice_get names k) e ∙ at ∙ sym at' ∙ ap (λ k. slice_get names' k) (sym e))
+      | false ↦ λ f. agree place (grind (arith, nat_tests, less, f))
     ] refl
 
 -- what follows one line's word has the same client for both
@@ -185,19 +185,22 @@ names-same names names' seen all all' (t ∷ ts) (l ∷ ls) (l' ∷ ls') differ 
 has-before : (names new : List (List ℕ)) (name : List ℕ) (client : ℕ) → AreNames new → Differ new → length new ≤ 64 → Agree names new (length names) → client ≤ length names → seen_with (length names) (Some client) ≡ length new → slice_get new client ≡ Some name → HasNumber names name client
 has-before names new name client forms differ few agree next seen at =
     elim (nat_lt client (length names)) as (λ b. nat_lt client (length names) ≡ b → HasNumber names name client) [
-      true ↦ λ t. (let old : client < length names = grind (arith, nat_tests) in inl (agree client old ∙ at))
-    | false ↦ λ f. (
-        let last : client ≡ length names = grind (arith, nat_tests) in
-        let longer : length names + 1 ≡ length new = sym (seen-new (length names) client last) ∙ seen in
-        inr (last, record {
-          new = λ place here. (
-            let within : place < length names = slice_get_within names place name here in
-            let same : place ≡ client = differ place client name (sym (agree place within) ∙ here) at in
-            omega (arith, within, same, last)
-          );
-          form = forms client name at;
-          few = omega (arith, longer, few);
-        }))
+      | true ↦ λ t. (let old : client < length names = grind (arith, nat_tests) in inl (agree client old ∙ at))
+      | false ↦ λ f. (
+          let last : client ≡ length names = grind (arith, nat_tests) in
+          let longer : length names + 1 ≡ length new = sym (seen-new (length names) client last) ∙ seen in
+          inr (
+            last,
+            record {
+              new = λ place here. (
+                  let within : place < length names = slice_get_within names place name here in
+                  let same : place ≡ client = differ place client name (sym (agree place within) ∙ here) at in
+                  omega (arith, within, same, last)
+                  );
+              form = forms client name at;
+              few = omega (arith, longer, few);
+            },
+          ))
     ] refl
 
 rest-before : (names new : List (List ℕ)) (rest : List ℕ) (client : Option ℕ) (line : ScriptLine) → AreNames new → Differ new → length new ≤ 64 → Agree names new (length names) → IsSeenOrNext (length names) client → seen_with (length names) client ≡ length new → IsRest new rest client line → IsNextRest names rest client line
