@@ -1,6 +1,9 @@
 -- The text of steps, one by one.
 use Rattle.std.proofs.Common.{◌≡◌, ◌∙◌, ℕ, List, [], ◌∷◌, ◌++◌, codes, refl, sym, ap, append_assoc, string_bytes}
 use Rattle.std.specs.List.{flat_map}
+use Rattle.std.specs.Fmt.{digits}
+use Rattle.std.specs.Char.{encode_utf8}
+use Rattle.json.specs.Print.{escape_byte}
 use Rattle.delta.specs.declared.Step.{Step}
 use Rattle.delta.specs.declared.Step.TheVariants.{Retain, Insert, Delete}
 use Rattle.transcript.specs.Deltas.{step_text, next_step_text, delta_text}
