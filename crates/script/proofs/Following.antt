@@ -1,12 +1,12 @@
 -- A word and what follows it as the line after lines with some names.
-use Rattle.std.proofs.Common.{◌≡◌, ◌∙◌, ℕ, ◌<◌, ◌+◌, ◌≤◌, ◌⊎◌, inl, inr, List, [], ◌∷◌, ◌++◌, length, length-append, refl, sym, ap, subst, arith, Option, Some, None, Result, Ok, Err, IfOk}
+use Rattle.std.proofs.Common.{◌≡◌, ◌∙◌, ℕ, ◌<◌, ◌+◌, ◌≤◌, inl, inr, List, [], ◌∷◌, ◌++◌, length, length-append, refl, sym, ap, subst, arith, Option, Some, None, Result, Ok, Err, IfOk}
 use Rattle.std.specs.Prelude.{slice_get}
 use Rattle.std.specs.Str.{chars}
 use Rattle.std.proofs.lemmas.Option.{slice_get_within}
 use Rattle.script.specs.declared.line.ScriptLine.{ScriptLine}
 use Rattle.script.specs.declared.content.Content.{Content}
 use Rattle.script.specs.Words.{first_word, after_word}
-use Rattle.script.specs.Line.{word_of, client_of, IsEnd, IsRest, IsLine}
+use Rattle.script.specs.Line.{client_of, IsRest}
 use Rattle.script.specs.Clients.{IsSeenOrNext, seen_with, AreNames, Differ, IsNumbered}
 use Rattle.script.specs.Next.{IsNewName, HasNumber, IsPlainLine, IsClientLine, Tells, IsNextRest, IsNextLine, names_with, IsNext}
 use Rattle.script.proofs.Spelling.{name-chars}

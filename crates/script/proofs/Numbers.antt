@@ -1,15 +1,12 @@
 -- Numbers of names, and lines that number them.
-use Rattle.std.proofs.Common.{◌≡◌, ◌≢◌, ◌∙◌, ℕ, zero, suc, ◌+◌, ◌<◌, ◌≤◌, ◌==◌, nat_lt, ◌⊎◌, inl, inr, Bool, true, false, cond, if◌then◌else◌, List, [], ◌∷◌, ◌++◌, length, length-append, refl, sym, ap, subst, arith, Option, Some, None}
+use Rattle.std.proofs.Common.{◌≡◌, ◌∙◌, ℕ, zero, suc, ◌+◌, ◌<◌, ◌==◌, ◌⊎◌, inl, inr, true, false, if◌then◌else◌, List, [], ◌∷◌, ◌++◌, length, refl, sym, ap, subst, arith, Some}
 use Rattle.std.specs.Prelude.{slice_get}
-use Rattle.std.specs.Str.{chars}
-use Rattle.std.proofs.lemmas.Option.{slice_get_within}
 use Rattle.std.proofs.lemmas.Bool.Decides.{nat_tests}
 use Rattle.script.specs.declared.line.ScriptLine.{ScriptLine}
 use Rattle.script.specs.Name.{IsName}
 use Rattle.script.specs.Line.{client_of}
 use Rattle.script.specs.Clients.{IsSeenOrNext, seen_with, AppearInOrder, AreNames, Differ}
 use Rattle.script.specs.Next.{IsNewName, HasNumber, names_with}
-use Rattle.script.proofs.Spelling.{name-chars}
 
 -- places in names with one more
 pub kept-at : (names more : List (List ℕ)) (place : ℕ) (name : List ℕ) → slice_get names place ≡ Some name → slice_get (names ++ more) place ≡ Some name

@@ -1,5 +1,5 @@
 -- Lines that stand for a script, one by one.
-use Rattle.std.proofs.Common.{◌≡◌, ◌≢◌, ◌∙◌, ℕ, ◌+◌, ◌<◌, ◌≤◌, ◌==◌, ◌⊎◌, inl, inr, nat_lt, append-nil, Bool, true, false, not, ◌||◌, cond, if◌then◌else◌, List, [], ◌∷◌, ◌++◌, length, codes, refl, sym, ap, subst, arith, Option, Some, None, is_some, Result, Ok, Err, MatchResult, map, filter}
+use Rattle.std.proofs.Common.{◌≡◌, ◌∙◌, ℕ, ◌+◌, ◌<◌, ◌≤◌, ◌==◌, inl, inr, nat_lt, append-nil, Bool, true, false, not, ◌||◌, cond, List, [], ◌∷◌, ◌++◌, length, codes, refl, sym, ap, subst, arith, Option, Some, None, is_some, Result, Ok, Err, MatchResult, map, filter}
 use Rattle.std.specs.Prelude.{slice_get}
 use Rattle.std.specs.List.{AllByRecursion}
 use Rattle.std.specs.Str.{IsUtf8, bytes_eq}
@@ -13,14 +13,14 @@ use Rattle.script.specs.declared.content.Content.{Content}
 use Rattle.script.specs.declared.error.Refusal.{Refusal}
 use Rattle.script.specs.declared.error.Refusal.TheVariants.{Fault, OutOfMemory}
 use Rattle.script.specs.declared.error.LineFault.TheVariants.{NotUtf8}
-use Rattle.script.specs.Name.{IsName}
 use Rattle.script.specs.Words.{first_word, after_word}
 use Rattle.script.specs.Lines.{texts, said, is_skipped}
-use Rattle.script.specs.Line.{word_of, client_of, IsEnd, IsNamed, IsRest, IsLine}
-use Rattle.script.specs.Clients.{IsSeenOrNext, seen_with, AppearInOrder, AreNames, Differ, IsNumbered}
+use Rattle.script.specs.Line.{word_of, client_of, IsRest, IsLine}
+use Rattle.script.specs.Clients.{IsSeenOrNext, seen_with, AppearInOrder, AreNames, Differ}
 use Rattle.script.specs.Script.{AreLines, IsScript, IsFault}
-use Rattle.script.specs.Next.{IsNewName, HasNumber, IsNextRest, IsNextLine, names_with, IsNext, IsUnfit, ReadsOn, IsStop}
+use Rattle.script.specs.Next.{HasNumber, IsNextRest, IsNextLine, IsNext, IsUnfit, ReadsOn, IsStop}
 use Rattle.script.proofs.Numbers.{seen-new, AppearedBefore, appear-last}
+use Rattle.script.proofs.Single.{line-same, lists-same}
 use Rattle.script.proofs.Following.{GrowsTo, grows, rest-new, numbered-next}
 
 -- UTF-8 of all lines and of one more
@@ -166,10 +166,10 @@ rest-same names names' seen rest (Some client) (Some client') line line' differ 
     let same : client ≡ client' = client-same names names' seen (first_word rest) client client' differ differ' agree next next' is.0 is'.0 in
     (ap Some same, agree-with names names' seen (first_word rest) client agree is.0 (subst (λ k. slice_get names' k ≡ Some (first_word rest)) (sym same) is'.0))
 
--- lines of the same texts number the same names
+-- lines of the same texts are the same, and number the same names
 names-same : (names names' : List (List ℕ)) (seen all all' : ℕ) (ts : List (List ℕ)) (ls ls' : List ScriptLine) → Differ names → Differ names' → Agree names names' seen
-    → AreLines names ts ls → AreLines names' ts ls' → AppearInOrder seen ls all → AppearInOrder seen ls' all' → (all ≡ all') × Agree names names' all
-names-same names names' seen all all' [] [] [] differ differ' agree are are' order order' = (sym order ∙ order', subst (Agree names names') order agree)
+    → AreLines names ts ls → AreLines names' ts ls' → AppearInOrder seen ls all → AppearInOrder seen ls' all' → (all ≡ all') × Agree names names' all × (ls ≡ ls')
+names-same names names' seen all all' [] [] [] differ differ' agree are are' order order' = (sym order ∙ order', subst (Agree names names') order agree, refl)
 names-same names names' seen all all' [] [] (l' ∷ ls') differ differ' agree are are' order order' = absurd are'
 names-same names names' seen all all' [] (l ∷ ls) ls' differ differ' agree are are' order order' = absurd are
 names-same names names' seen all all' (t ∷ ts) [] ls' differ differ' agree are are' order order' = absurd are
@@ -179,7 +179,15 @@ names-same names names' seen all all' (t ∷ ts) (l ∷ ls) (l' ∷ ls') differ 
     let both : is_some (client_of l) ≡ is_some (client_of l') = client-by-word l ∙ ap has_client words ∙ sym (client-by-word l') in
     let same = rest-same names names' seen (after_word t) (client_of l) (client_of l') l l' differ differ' agree both are.0.1 are'.0.1 order.0 order'.0 in
     let after' : AppearInOrder (seen_with seen (client_of l)) ls' all' = subst (λ c. AppearInOrder (seen_with seen c) ls' all') (sym same.0) order'.1 in
-    names-same names names' (seen_with seen (client_of l)) all all' ts ls ls' differ differ' same.1 are.1 are'.1 order.1 after'
+    let rest = names-same names names' (seen_with seen (client_of l)) all all' ts ls ls' differ differ' same.1 are.1 are'.1 order.1 after' in
+    (rest.0, rest.1, ap (λ x. x ∷ ls) (line-same names names' t l l' are.0 are'.0 same.0) ∙ ap (λ xs. l' ∷ xs) rest.2)
+
+-- lines of bytes stand for one script at most
+pub scripts-same : (ls : List (List ℕ)) (one other : Content) → IsScript ls one → IsScript ls other → one ≡ other
+scripts-same ls one other is is' =
+    let same = names-same one.names other.names 0 (length one.names) (length other.names) (texts ls) one.lines other.lines is.clients.differ is'.clients.differ (λ place less. absurd (omega (arith, less))) is.each is'.each is.clients.order is'.clients.order in
+    let names : one.names ≡ other.names = lists-same one.names other.names same.0 same.1 in
+    ap (λ n. let c : Content = record { names = n; lines = one.lines } in c) names ∙ ap (λ l. let c : Content = record { names = other.names; lines = l } in c) same.2
 
 -- the number that a name has in names that begin so, one seen before or the next new one
 has-before : (names new : List (List ℕ)) (name : List ℕ) (client : ℕ) → AreNames new → Differ new → length new ≤ 64 → Agree names new (length names) → client ≤ length names → seen_with (length names) (Some client) ≡ length new → slice_get new client ≡ Some name → HasNumber names name client

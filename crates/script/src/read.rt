@@ -1,5 +1,7 @@
 //! Bytes as a script.
-ghost use Rattle.std.specs.Prelude.{◌≡◌, MatchResult};
+ghost use Rattle.std.specs.Prelude.{◌≡◌, ◌≢◌, IfOk, IfErr, MatchResult};
+ghost use Rattle.script.specs.declared.error.ScriptError.TheVariants.{OutOfMemory as ScriptMemory};
+ghost use Rattle.script.specs.declared.content.Content.{Content};
 ghost use Rattle.script.specs.Script.{IsScriptOf, IsScriptCause};
 ghost use Rattle.script.specs.Next.{ReadsOn, IsStop};
 
@@ -22,7 +24,9 @@ const MAX_BYTES: usize = 8_388_608;
 /// the 65th. COUNT is a number or `all`. The lines stand in any order and number; whether a client
 /// has joined is not looked at.
 pub fn read_script(alloc: Global, bytes: &[u8]) -> Result<Script, ScriptError>
-    ensures { MatchResult result (IsScriptOf bytes.now) (IsScriptCause bytes.now) }
+    ensures script { MatchResult result (IsScriptOf bytes.now) (IsScriptCause bytes.now) }
+    ensures single { IfOk result (λ script. (other : Content) → IsScriptOf bytes.now other → other ≡ script) }
+    ensures none { IfErr result (λ error. error ≢ ScriptMemory → (other : Content) → ¬ (IsScriptOf bytes.now other)) }
 {
     if bytes.len() > MAX_BYTES {
         return Err(ScriptError::TooLarge);

@@ -1,6 +1,6 @@
 use Rattle.script.specs.Words.{first_word, after_word}
 use Rattle.script.specs.Next.{Tells, IsPlainLine, IsClientLine, HasNumber}
-use Rattle.std.proofs.Common.{◌≡◌, ℕ, None, IfOk}
+use Rattle.std.proofs.Common.{ℕ, None, IfOk}
 use Rattle.script.proofs.Following.{next-none, next-client}
 use Rattle.script.proofs.form.next_line.Goals as goal
 

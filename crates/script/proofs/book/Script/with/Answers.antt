@@ -1,4 +1,3 @@
-use Rattle.std.proofs.Common.{◌≡◌}
 use Rattle.script.specs.Words.{first_word, after_word}
 use Rattle.script.proofs.Following.{numbered-next}
 use Rattle.script.proofs.book.Script.with.Goals as goal
