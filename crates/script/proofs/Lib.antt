@@ -1,7 +1,10 @@
 pub mod Blanks
 pub mod Cuts
-pub mod Forms
+pub mod Following
+pub mod Fronts
 pub mod Loop
-pub mod Plays
+pub mod Numbers
 pub mod Reading
+pub mod Single
+pub mod Spelling
 mod Worked

@@ -5,6 +5,7 @@ use Rattle.script.specs.declared.error.Refusal.TheVariants.{Fault}
 use Rattle.script.specs.declared.error.LineFault.{LineFault}
 use Rattle.script.specs.Lines.{lines}
 use Rattle.script.specs.Script.{IsScript, IsScriptOf, IsFirstBad}
+use Rattle.script.specs.Clients.{IsNumbered}
 use Rattle.script.specs.Next.{no_content, ReadsOn, IsStop}
 
 -- the lines before the rest stand for the script, and this is their number
@@ -15,9 +16,12 @@ pub record IsReading (bytes rest : List ℕ) (number : ℕ) (content : Content) 
   pub few : number + length rest ≤ length bytes
   pub script : IsScript before content
 
+no-clients : IsNumbered no_content
+no-clients = record { forms = λ client name at. absurd (cc); differ = λ client other name at at'. absurd (cc); few = omega arith; order = refl }
+
 pub reading-start : (bytes : List ℕ) → IsReading bytes bytes 0 no_content
 reading-start bytes =
-    record { before = []; parts = refl; counted = refl; few = omega arith; script = record { utf8 = tt; each = tt; playable = tt } }
+    record { before = []; parts = refl; counted = refl; few = omega arith; script = record { utf8 = tt; each = tt; clients = no-clients } }
 
 pub reading-turn : (bytes rest : List ℕ) (number : ℕ) (old new : Content) (line after : List ℕ) → IsReading bytes rest number old → lines rest ≡ line ∷ lines after → length after < length rest → ReadsOn line old new → IsReading bytes after (number + 1) new
 reading-turn bytes rest number old new line after r cut shorter reads =

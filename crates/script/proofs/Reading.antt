@@ -1,26 +1,27 @@
 -- Lines that stand for a script, one by one.
-use Rattle.std.proofs.Common.{◌≡◌, ◌≢◌, ◌∙◌, ℕ, zero, suc, append-nil, Bool, true, false, not, cond, List, [], ◌∷◌, ◌++◌, refl, sym, ap, subst, Some, Result, Ok, Err, MatchResult, map, filter}
+use Rattle.std.proofs.Common.{◌≡◌, ◌∙◌, ℕ, ◌+◌, ◌<◌, ◌≤◌, ◌==◌, inl, inr, nat_lt, append-nil, Bool, true, false, not, ◌||◌, cond, List, [], ◌∷◌, ◌++◌, length, codes, refl, sym, ap, subst, arith, Option, Some, None, is_some, Result, Ok, Err, MatchResult, map, filter}
 use Rattle.std.specs.Prelude.{slice_get}
 use Rattle.std.specs.List.{AllByRecursion}
-use Rattle.std.specs.Str.{IsUtf8}
-use Rattle.script.specs.declared.line.ScriptLine.{ScriptLine}
-use Rattle.script.specs.declared.line.ScriptLine.TheVariants.{Join, Edit, Post, Sync, Show, Settle, Cells}
-use Rattle.script.specs.declared.line.PostedOp.{PostedOp}
-use Rattle.script.specs.declared.line.PostedOp.TheVariants.{Queue}
-use Rattle.delta.specs.declared.Step.{Step}
-use Rattle.script.specs.declared.content.Content.{Content}
+use Rattle.std.specs.Str.{IsUtf8, bytes_eq}
+use Rattle.std.proofs.lemmas.Bool.Decides.{nat_tests}
+use Rattle.std.proofs.lemmas.Option.{slice_get_within}
 use Rattle.std.proofs.lemmas.List.{map-append}
 use Rattle.std.proofs.lemmas.List.Elements.{filter-append}
-use Rattle.script.proofs.Forms.{apart}
-use Rattle.script.specs.Words.{after_word}
-use Rattle.script.specs.Lines.{texts, said, is_skipped}
-use Rattle.script.specs.Line.{IsOp, IsPost, IsLine, IsEdit, IsNamed}
-use Rattle.script.specs.Play.{IsPlay}
+use Rattle.script.specs.declared.line.ScriptLine.{ScriptLine}
+use Rattle.script.specs.declared.line.ScriptLine.TheVariants.{Join, Edit, Post, Send, Recv, Sync, Show, Pending, Settle, Cells}
+use Rattle.script.specs.declared.content.Content.{Content}
 use Rattle.script.specs.declared.error.Refusal.{Refusal}
 use Rattle.script.specs.declared.error.Refusal.TheVariants.{Fault, OutOfMemory}
 use Rattle.script.specs.declared.error.LineFault.TheVariants.{NotUtf8}
+use Rattle.script.specs.Words.{first_word, after_word}
+use Rattle.script.specs.Lines.{texts, said, is_skipped}
+use Rattle.script.specs.Line.{word_of, client_of, IsRest, IsLine}
+use Rattle.script.specs.Clients.{IsSeenOrNext, seen_with, AppearInOrder, AreNames, Differ}
 use Rattle.script.specs.Script.{AreLines, IsScript, IsFault}
-use Rattle.script.specs.Next.{IsNext, IsUnfit, ReadsOn, IsStop}
+use Rattle.script.specs.Next.{HasNumber, IsNextRest, IsNextLine, IsNext, IsUnfit, ReadsOn, IsStop}
+use Rattle.script.proofs.Numbers.{seen-new, AppearedBefore, appear-last}
+use Rattle.script.proofs.Single.{line-same, lists-same}
+use Rattle.script.proofs.Following.{GrowsTo, grows, rest-new, numbered-next}
 
 -- UTF-8 of all lines and of one more
 AllUtf8-push : (ls : List (List ℕ)) (line : List ℕ) → AllByRecursion IsUtf8 ls → IsUtf8 line → AllByRecursion IsUtf8 (ls ++ line ∷ [])
@@ -82,124 +83,16 @@ AreLines-last names (s ∷ ts) t (l ∷ ls) are =
     let h = AreLines-last names ts t ls are.1 in
     record { front = l ∷ h.front; last = h.last; parts = ap (λ m. l ∷ m) h.parts; are = (are.0, h.are); is = h.is }
 
--- a text is one line at most
-zero-named : (name word : List ℕ) (client : ℕ) → IsNamed (name ∷ []) client word → client ≡ 0
-zero-named name word zero is = refl
-zero-named name word (suc client) is = absurd (cc)
+-- the names before are the first ones after, so lines stay what they were
+rest-grown : (names new : List (List ℕ)) (rest : List ℕ) (client : Option ℕ) (line : ScriptLine) → ((place : ℕ) (name : List ℕ) → slice_get names place ≡ Some name → slice_get new place ≡ Some name) → IsRest names rest client line → IsRest new rest client line
+rest-grown names new rest None line kept is = is
+rest-grown names new rest (Some client) line kept is = (kept client (first_word rest) is.0, is.1)
 
-IsEdit-same : (name text : List ℕ) (client client' cell cell' : ℕ) (delta delta' : List Step) → IsEdit (name ∷ []) text client cell delta → IsEdit (name ∷ []) text client' cell' delta' → Edit client cell delta ≡ Edit client' cell' delta'
-IsEdit-same name text client client' cell cell' delta delta' one other =
-    let clients : client ≡ client' = zero-named name _ client one.name ∙ sym (zero-named name _ client' other.name) in
-    let cells : cell ≡ cell' = one.number.value ∙ sym other.number.value in
-    let some : Some delta ≡ Some delta' = sym one.delta_text.steps ∙ other.delta_text.steps in
-    let deltas : delta ≡ delta' = (cc) in
-    ap (λ c. Edit c cell delta) clients ∙ ap (λ c. Edit client' c delta) cells ∙ ap (λ d. Edit client' cell' d) deltas
-
-IsOp-same : (text : List ℕ) (op op' : PostedOp) → IsOp text op → IsOp text op' → op ≡ op'
-IsOp-same text (Queue cell) (Queue cell') one other = ap Queue (one.1.value ∙ sym other.1.value)
-
-IsPost-same : (name text : List ℕ) (client client' : ℕ) (op op' : PostedOp) → IsPost (name ∷ []) text client op → IsPost (name ∷ []) text client' op' → Post client op ≡ Post client' op'
-IsPost-same name text client client' op op' one other =
-    let clients : client ≡ client' = zero-named name _ client one.name ∙ sym (zero-named name _ client' other.name) in
-    let ops : op ≡ op' = IsOp-same (after_word text) op op' one.operation other.operation in
-    ap (λ c. Post c op) clients ∙ ap (λ o. Post client' o) ops
-
-IsLine-same : (name text : List ℕ) (l m : ScriptLine) → IsLine (name ∷ []) text l → IsLine (name ∷ []) text m → l ≡ m
-IsLine-same name text (Join client) (Join client') one other = ap Join (zero-named name _ client one.1 ∙ sym (zero-named name _ client' other.1))
-IsLine-same name text (Join client) (Edit client' cell' delta') one other = absurd (apart _ _ refl (sym one.0 ∙ other.0))
-IsLine-same name text (Join client) (Post client' op') one other = absurd (apart _ _ refl (sym one.0 ∙ other.0))
-IsLine-same name text (Join client) (Sync) one other = absurd (apart _ _ refl (sym one.0 ∙ other.0))
-IsLine-same name text (Join client) (Show client') one other = absurd (apart _ _ refl (sym one.0 ∙ other.0))
-IsLine-same name text (Join client) (Settle) one other = absurd (apart _ _ refl (sym one.0 ∙ other.0))
-IsLine-same name text (Join client) (Cells) one other = absurd (apart _ _ refl (sym one.0 ∙ other.0))
-IsLine-same name text (Edit client cell delta) (Join client') one other = absurd (apart _ _ refl (sym one.0 ∙ other.0))
-IsLine-same name text (Edit client cell delta) (Edit client' cell' delta') one other = IsEdit-same name (after_word text) client client' cell cell' delta delta' one.1 other.1
-IsLine-same name text (Edit client cell delta) (Post client' op') one other = absurd (apart _ _ refl (sym one.0 ∙ other.0))
-IsLine-same name text (Edit client cell delta) (Sync) one other = absurd (apart _ _ refl (sym one.0 ∙ other.0))
-IsLine-same name text (Edit client cell delta) (Show client') one other = absurd (apart _ _ refl (sym one.0 ∙ other.0))
-IsLine-same name text (Edit client cell delta) (Settle) one other = absurd (apart _ _ refl (sym one.0 ∙ other.0))
-IsLine-same name text (Edit client cell delta) (Cells) one other = absurd (apart _ _ refl (sym one.0 ∙ other.0))
-IsLine-same name text (Post client op) (Join client') one other = absurd (apart _ _ refl (sym one.0 ∙ other.0))
-IsLine-same name text (Post client op) (Edit client' cell' delta') one other = absurd (apart _ _ refl (sym one.0 ∙ other.0))
-IsLine-same name text (Post client op) (Post client' op') one other = IsPost-same name (after_word text) client client' op op' one.1 other.1
-IsLine-same name text (Post client op) (Sync) one other = absurd (apart _ _ refl (sym one.0 ∙ other.0))
-IsLine-same name text (Post client op) (Show client') one other = absurd (apart _ _ refl (sym one.0 ∙ other.0))
-IsLine-same name text (Post client op) (Settle) one other = absurd (apart _ _ refl (sym one.0 ∙ other.0))
-IsLine-same name text (Post client op) (Cells) one other = absurd (apart _ _ refl (sym one.0 ∙ other.0))
-IsLine-same name text (Sync) (Join client') one other = absurd (apart _ _ refl (sym one.0 ∙ other.0))
-IsLine-same name text (Sync) (Edit client' cell' delta') one other = absurd (apart _ _ refl (sym one.0 ∙ other.0))
-IsLine-same name text (Sync) (Post client' op') one other = absurd (apart _ _ refl (sym one.0 ∙ other.0))
-IsLine-same name text (Sync) (Sync) one other = refl
-IsLine-same name text (Sync) (Show client') one other = absurd (apart _ _ refl (sym one.0 ∙ other.0))
-IsLine-same name text (Sync) (Settle) one other = absurd (apart _ _ refl (sym one.0 ∙ other.0))
-IsLine-same name text (Sync) (Cells) one other = absurd (apart _ _ refl (sym one.0 ∙ other.0))
-IsLine-same name text (Show client) (Join client') one other = absurd (apart _ _ refl (sym one.0 ∙ other.0))
-IsLine-same name text (Show client) (Edit client' cell' delta') one other = absurd (apart _ _ refl (sym one.0 ∙ other.0))
-IsLine-same name text (Show client) (Post client' op') one other = absurd (apart _ _ refl (sym one.0 ∙ other.0))
-IsLine-same name text (Show client) (Sync) one other = absurd (apart _ _ refl (sym one.0 ∙ other.0))
-IsLine-same name text (Show client) (Show client') one other = ap Show (zero-named name _ client one.1 ∙ sym (zero-named name _ client' other.1))
-IsLine-same name text (Show client) (Settle) one other = absurd (apart _ _ refl (sym one.0 ∙ other.0))
-IsLine-same name text (Show client) (Cells) one other = absurd (apart _ _ refl (sym one.0 ∙ other.0))
-IsLine-same name text (Settle) (Join client') one other = absurd (apart _ _ refl (sym one.0 ∙ other.0))
-IsLine-same name text (Settle) (Edit client' cell' delta') one other = absurd (apart _ _ refl (sym one.0 ∙ other.0))
-IsLine-same name text (Settle) (Post client' op') one other = absurd (apart _ _ refl (sym one.0 ∙ other.0))
-IsLine-same name text (Settle) (Sync) one other = absurd (apart _ _ refl (sym one.0 ∙ other.0))
-IsLine-same name text (Settle) (Show client') one other = absurd (apart _ _ refl (sym one.0 ∙ other.0))
-IsLine-same name text (Settle) (Settle) one other = refl
-IsLine-same name text (Settle) (Cells) one other = absurd (apart _ _ refl (sym one.0 ∙ other.0))
-IsLine-same name text (Cells) (Join client') one other = absurd (apart _ _ refl (sym one.0 ∙ other.0))
-IsLine-same name text (Cells) (Edit client' cell' delta') one other = absurd (apart _ _ refl (sym one.0 ∙ other.0))
-IsLine-same name text (Cells) (Post client' op') one other = absurd (apart _ _ refl (sym one.0 ∙ other.0))
-IsLine-same name text (Cells) (Sync) one other = absurd (apart _ _ refl (sym one.0 ∙ other.0))
-IsLine-same name text (Cells) (Show client') one other = absurd (apart _ _ refl (sym one.0 ∙ other.0))
-IsLine-same name text (Cells) (Settle) one other = absurd (apart _ _ refl (sym one.0 ∙ other.0))
-IsLine-same name text (Cells) (Cells) one other = refl
-
-AreLines-same : (name : List ℕ) (ts : List (List ℕ)) (ls ms : List ScriptLine) → AreLines (name ∷ []) ts ls → AreLines (name ∷ []) ts ms → ls ≡ ms
-AreLines-same name [] ls ms one other = AreLines-nothing (name ∷ []) ls one ∙ sym (AreLines-nothing (name ∷ []) ms other)
-AreLines-same name (t ∷ ts) [] ms one other = absurd one
-AreLines-same name (t ∷ ts) (l ∷ ls) [] one other = absurd other
-AreLines-same name (t ∷ ts) (l ∷ ls) (m ∷ ms) one other =
-    ap (λ x. x ∷ ls) (IsLine-same name t l m one.0 other.0) ∙ ap (λ xs. m ∷ xs) (AreLines-same name ts ls ms one.1 other.1)
-
--- the first text says the one name
-first-name : (names : List (List ℕ)) (l : ScriptLine) (ls : List ScriptLine) (t : List ℕ) → IsPlay names (l ∷ ls) → IsLine names t l → names ≡ after_word t ∷ []
-first-name [] l ls t play is = absurd play
-first-name (name ∷ []) (Join client) ls t play is =
-    let first : slice_get (name ∷ []) 0 ≡ Some (after_word t) = subst (λ n. slice_get (name ∷ []) n ≡ Some (after_word t)) play.1.0 is.1 in
-    let e : name ≡ after_word t = (cc) in
-    ap (λ n. n ∷ []) e
-first-name (name ∷ []) (Edit client cell delta) ls t play is = absurd play.1
-first-name (name ∷ []) (Sync) ls t play is = absurd play.1
-first-name (name ∷ []) (Show client) ls t play is = absurd play.1
-first-name (name ∷ []) (Post client op) ls t play is = absurd play.1
-first-name (name ∷ []) (Settle) ls t play is = absurd play.1
-first-name (name ∷ []) (Cells) ls t play is = absurd play.1
-first-name (name ∷ other ∷ names) l ls t play is = absurd play
-
--- the front of a script is the old one
-fronts-same : (names names' : List (List ℕ)) (ts : List (List ℕ)) (ls front : List ScriptLine) (last : ScriptLine)
-    → IsPlay names ls → AreLines names ts ls → IsPlay names' (front ++ last ∷ []) → AreLines names' ts front → (front ≡ ls) × (ls ≢ [] → names' ≡ names)
-fronts-same names names' ts [] front last play are play' are' =
-    let none : ts ≡ [] = AreLines-none names ts are in
-    (AreLines-nothing names' front (subst (λ t. AreLines names' t front) none are'), λ some. absurd (some refl))
-fronts-same names names' [] (l ∷ ls) front last play are play' are' = absurd are
-fronts-same names names' (t ∷ ts) (l ∷ ls) [] last play are play' are' = absurd are'
-fronts-same names names' (t ∷ ts) (l ∷ ls) (m ∷ front) last play are play' are' =
-    let one : names ≡ after_word t ∷ [] = first-name names l ls t play are.0 in
-    let other : names' ≡ after_word t ∷ [] = first-name names' m (front ++ last ∷ []) t play' are'.0 in
-    let here : AreLines (after_word t ∷ []) (t ∷ ts) (l ∷ ls) = subst (λ n. AreLines n (t ∷ ts) (l ∷ ls)) one are in
-    let there : AreLines (after_word t ∷ []) (t ∷ ts) (m ∷ front) = subst (λ n. AreLines n (t ∷ ts) (m ∷ front)) other are' in
-    (AreLines-same (after_word t) (t ∷ ts) (m ∷ front) (l ∷ ls) there here, λ _. other ∙ sym one)
-
--- old lines and one more, where the names may be new at the first
-lines-push : (names names' : List (List ℕ)) (ts : List (List ℕ)) (ls : List ScriptLine) (t : List ℕ) (l : ScriptLine) → AreLines names ts ls → (ls ≢ [] → names' ≡ names) → IsLine names' t l → AreLines names' (ts ++ t ∷ []) (ls ++ l ∷ [])
-lines-push names names' ts [] t l are same is =
-    let none : [] ≡ ts = sym (AreLines-none names ts are) in
-    subst (λ s. AreLines names' (s ++ t ∷ []) (l ∷ [])) none (is, tt)
-lines-push names names' ts (x ∷ ls) t l are same is =
-    let e : names' ≡ names = same (λ nil. cc) in
-    AreLines-push names' ts (x ∷ ls) t l (subst (λ n. AreLines n ts (x ∷ ls)) (sym e) are) is
+are-grown : (names new : List (List ℕ)) (ts : List (List ℕ)) (ls : List ScriptLine) → ((place : ℕ) (name : List ℕ) → slice_get names place ≡ Some name → slice_get new place ≡ Some name) → AreLines names ts ls → AreLines new ts ls
+are-grown names new [] [] kept are = tt
+are-grown names new [] (l ∷ ls) kept are = absurd are
+are-grown names new (t ∷ ts) [] kept are = absurd are
+are-grown names new (t ∷ ts) (l ∷ ls) kept are = ((are.0.0, rest-grown names new (after_word t) (client_of l) l kept are.0.1), are-grown names new ts ls kept are.1)
 
 -- a line that is skipped changes nothing
 pub IsScript-skipped : (before : List (List ℕ)) (line : List ℕ) (script : Content) → IsScript before script → IsUtf8 line → is_skipped (said line) ≡ true → IsScript (before ++ line ∷ []) script
@@ -207,47 +100,144 @@ IsScript-skipped before line script is utf8 skipped =
     record {
       utf8 = AllUtf8-push before line is.utf8 utf8;
       each = subst (λ ts. AreLines script.names ts script.lines) (sym (texts-skipped before line skipped)) is.each;
-      playable = is.playable;
+      clients = is.clients;
     }
 
--- one more line makes the next script, and no other
-pub IsScript-next : (before : List (List ℕ)) (line : List ℕ) (old new : Content) → IsScript before old → IsUtf8 line → is_skipped (said line) ≡ false → IsNext old (said line) new → IsScript (before ++ line ∷ []) new
+-- one more line makes the next script
+IsScript-next : (before : List (List ℕ)) (line : List ℕ) (old new : Content) → IsScript before old → IsUtf8 line → is_skipped (said line) ≡ false → IsNext old (first_word (said line)) (after_word (said line)) new → IsScript (before ++ line ∷ []) new
 IsScript-next before line old new is utf8 kept next =
-    let are : AreLines new.names (texts before ++ said line ∷ []) (old.lines ++ next.line ∷ []) = lines-push old.names new.names (texts before) old.lines (said line) next.line is.each next.names next.is in
+    let rest : List ℕ = after_word (said line) in
+    let g : GrowsTo old.names (client_of next.line) new.names = subst (λ n. GrowsTo old.names (client_of next.line) n) (sym next.names) (grows old.names (client_of next.line) rest next.line is.clients.forms is.clients.differ is.clients.few next.is.1) in
+    let last : IsLine new.names (said line) next.line = (next.is.0, subst (λ n. IsRest n rest (client_of next.line) next.line) (sym next.names) (rest-new old.names (client_of next.line) rest next.line next.is.1)) in
+    let are : AreLines new.names (texts before ++ said line ∷ []) (old.lines ++ next.line ∷ []) = AreLines-push new.names (texts before) old.lines (said line) next.line (are-grown old.names new.names (texts before) old.lines g.kept is.each) last in
     record {
       utf8 = AllUtf8-push before line is.utf8 utf8;
       each = rw (texts-kept before line kept, next.added) are;
-      playable = next.playable;
+      clients = numbered-next old new (first_word (said line)) rest is.clients next;
     }
 
-pub IsNext-from_script : (before : List (List ℕ)) (line : List ℕ) (old new : Content) → IsScript before old → is_skipped (said line) ≡ false → IsScript (before ++ line ∷ []) new → IsNext old (said line) new
-IsNext-from_script before line old new is kept script =
+-- whether lines that begin with the word have a client
+abbrev has_client : List ℕ → Bool
+has_client word = not (bytes_eq word (codes "sync") || bytes_eq word (codes "settle") || bytes_eq word (codes "cells"))
+
+client-by-word : (line : ScriptLine) → is_some (client_of line) ≡ has_client (word_of line)
+client-by-word (Join client) = refl
+client-by-word (Edit client cell delta) = refl
+client-by-word (Post client op) = refl
+client-by-word (Send client count) = refl
+client-by-word (Recv client count) = refl
+client-by-word (Sync) = refl
+client-by-word (Show client) = refl
+client-by-word (Pending client cell) = refl
+client-by-word (Settle) = refl
+client-by-word (Cells) = refl
+
+-- two lists have the same names at the first places
+abbrev Agree : List (List ℕ) → List (List ℕ) → ℕ → Type 0
+Agree names names' seen = (place : ℕ) → place < seen → slice_get names place ≡ slice_get names' place
+
+-- a word's clients in both are the same, where each is one seen before or the next new one
+client-same : (names names' : List (List ℕ)) (seen : ℕ) (word : List ℕ) (client client' : ℕ) → Differ names → Differ names' → Agree names names' seen → client ≤ seen → client' ≤ seen → slice_get names client ≡ Some word → slice_get names' client' ≡ Some word → client ≡ client'
+client-same names names' seen word client client' differ differ' agree next next' at at' =
+    elim (nat_lt client seen) as (λ b. nat_lt client seen ≡ b → client ≡ client') [
+      | true ↦ λ t. (let old : client < seen = grind (arith, nat_tests) in differ' client client' word (sym (agree client old) ∙ at) at')
+      | false ↦ λ f. (
+          let new : client ≡ seen = grind (arith, nat_tests) in
+          elim (nat_lt client' seen) as (λ b. nat_lt client' seen ≡ b → client ≡ client') [
+            | true ↦ λ t. (let old : client' < seen = grind (arith, nat_tests) in differ client client' word at (agree client' old ∙ at'))
+            | false ↦ λ g. grind (arith, nat_tests)
+          ] refl)
+    ] refl
+
+agree-with : (names names' : List (List ℕ)) (seen : ℕ) (word : List ℕ) (client : ℕ) → Agree names names' seen → slice_get names client ≡ Some word → slice_get names' client ≡ Some word → Agree names names' (seen_with seen (Some client))
+agree-with names names' seen word client agree at at' place less =
+    elim (place == client) as (λ b. (place == client) ≡ b → slice_get names place ≡ slice_get names' place) [
+      | true ↦ λ t. (let e : place ≡ client = grind (arith, nat_tests) in ap (λ k. slice_get names k) e ∙ at ∙ sym at' ∙ ap (λ k. slice_get names' k) (sym e))
+      | false ↦ λ f. agree place (grind (arith, nat_tests, less, f))
+    ] refl
+
+-- what follows one line's word has the same client for both
+rest-same : (names names' : List (List ℕ)) (seen : ℕ) (rest : List ℕ) (client client' : Option ℕ) (line line' : ScriptLine) → Differ names → Differ names' → Agree names names' seen → is_some client ≡ is_some client'
+    → IsRest names rest client line → IsRest names' rest client' line' → IsSeenOrNext seen client → IsSeenOrNext seen client' → (client ≡ client') × Agree names names' (seen_with seen client)
+rest-same names names' seen rest None None line line' differ differ' agree both is is' next next' = (refl, agree)
+rest-same names names' seen rest None (Some client') line line' differ differ' agree both is is' next next' = absurd (cc)
+rest-same names names' seen rest (Some client) None line line' differ differ' agree both is is' next next' = absurd (cc)
+rest-same names names' seen rest (Some client) (Some client') line line' differ differ' agree both is is' next next' =
+    let same : client ≡ client' = client-same names names' seen (first_word rest) client client' differ differ' agree next next' is.0 is'.0 in
+    (ap Some same, agree-with names names' seen (first_word rest) client agree is.0 (subst (λ k. slice_get names' k ≡ Some (first_word rest)) (sym same) is'.0))
+
+-- lines of the same texts are the same, and number the same names
+names-same : (names names' : List (List ℕ)) (seen all all' : ℕ) (ts : List (List ℕ)) (ls ls' : List ScriptLine) → Differ names → Differ names' → Agree names names' seen
+    → AreLines names ts ls → AreLines names' ts ls' → AppearInOrder seen ls all → AppearInOrder seen ls' all' → (all ≡ all') × Agree names names' all × (ls ≡ ls')
+names-same names names' seen all all' [] [] [] differ differ' agree are are' order order' = (sym order ∙ order', subst (Agree names names') order agree, refl)
+names-same names names' seen all all' [] [] (l' ∷ ls') differ differ' agree are are' order order' = absurd are'
+names-same names names' seen all all' [] (l ∷ ls) ls' differ differ' agree are are' order order' = absurd are
+names-same names names' seen all all' (t ∷ ts) [] ls' differ differ' agree are are' order order' = absurd are
+names-same names names' seen all all' (t ∷ ts) (l ∷ ls) [] differ differ' agree are are' order order' = absurd are'
+names-same names names' seen all all' (t ∷ ts) (l ∷ ls) (l' ∷ ls') differ differ' agree are are' order order' =
+    let words : word_of l ≡ word_of l' = sym are.0.0 ∙ are'.0.0 in
+    let both : is_some (client_of l) ≡ is_some (client_of l') = client-by-word l ∙ ap has_client words ∙ sym (client-by-word l') in
+    let same = rest-same names names' seen (after_word t) (client_of l) (client_of l') l l' differ differ' agree both are.0.1 are'.0.1 order.0 order'.0 in
+    let after' : AppearInOrder (seen_with seen (client_of l)) ls' all' = subst (λ c. AppearInOrder (seen_with seen c) ls' all') (sym same.0) order'.1 in
+    let rest = names-same names names' (seen_with seen (client_of l)) all all' ts ls ls' differ differ' same.1 are.1 are'.1 order.1 after' in
+    (rest.0, rest.1, ap (λ x. x ∷ ls) (line-same names names' t l l' are.0 are'.0 same.0) ∙ ap (λ xs. l' ∷ xs) rest.2)
+
+-- lines of bytes stand for one script at most
+pub scripts-same : (ls : List (List ℕ)) (one other : Content) → IsScript ls one → IsScript ls other → one ≡ other
+scripts-same ls one other is is' =
+    let same = names-same one.names other.names 0 (length one.names) (length other.names) (texts ls) one.lines other.lines is.clients.differ is'.clients.differ (λ place less. absurd (omega (arith, less))) is.each is'.each is.clients.order is'.clients.order in
+    let names : one.names ≡ other.names = lists-same one.names other.names same.0 same.1 in
+    ap (λ n. let c : Content = record { names = n; lines = one.lines } in c) names ∙ ap (λ l. let c : Content = record { names = other.names; lines = l } in c) same.2
+
+-- the number that a name has in names that begin so, one seen before or the next new one
+has-before : (names new : List (List ℕ)) (name : List ℕ) (client : ℕ) → AreNames new → Differ new → length new ≤ 64 → Agree names new (length names) → client ≤ length names → seen_with (length names) (Some client) ≡ length new → slice_get new client ≡ Some name → HasNumber names name client
+has-before names new name client forms differ few agree next seen at =
+    elim (nat_lt client (length names)) as (λ b. nat_lt client (length names) ≡ b → HasNumber names name client) [
+      | true ↦ λ t. (let old : client < length names = grind (arith, nat_tests) in inl (agree client old ∙ at))
+      | false ↦ λ f. (
+          let last : client ≡ length names = grind (arith, nat_tests) in
+          let longer : length names + 1 ≡ length new = sym (seen-new (length names) client last) ∙ seen in
+          inr (
+            last,
+            record {
+              new = λ place here. (
+                  let within : place < length names = slice_get_within names place name here in
+                  let same : place ≡ client = differ place client name (sym (agree place within) ∙ here) at in
+                  omega (arith, within, same, last)
+                  );
+              form = forms client name at;
+              few = omega (arith, longer, few);
+            },
+          ))
+    ] refl
+
+rest-before : (names new : List (List ℕ)) (rest : List ℕ) (client : Option ℕ) (line : ScriptLine) → AreNames new → Differ new → length new ≤ 64 → Agree names new (length names) → IsSeenOrNext (length names) client → seen_with (length names) client ≡ length new → IsRest new rest client line → IsNextRest names rest client line
+rest-before names new rest None line forms differ few agree next seen is = is
+rest-before names new rest (Some client) line forms differ few agree next seen is = (has-before names new (first_word rest) client forms differ few agree next seen is.0, is.1)
+
+-- a script of some lines and one more has a line that follows the script of those lines
+line-before : (before : List (List ℕ)) (line : List ℕ) (old new : Content) → IsScript before old → is_skipped (said line) ≡ false → IsScript (before ++ line ∷ []) new → (last : ScriptLine) × IsNextLine old.names (first_word (said line)) (after_word (said line)) last
+line-before before line old new is kept script =
     let are : AreLines new.names (texts before ++ said line ∷ []) new.lines = subst (λ ts. AreLines new.names ts new.lines) (texts-kept before line kept) script.each in
-    let has = AreLines-last new.names (texts before) (said line) new.lines are in
-    let play : IsPlay new.names (has.front ++ has.last ∷ []) = subst (λ ls. IsPlay new.names ls) has.parts script.playable in
-    let same = fronts-same old.names new.names (texts before) old.lines has.front has.last is.playable is.each play has.are in
-    record {
-      line = has.last;
-      added = has.parts ∙ ap (λ ls. ls ++ has.last ∷ []) same.0;
-      names = same.1;
-      is = has.is;
-      playable = script.playable;
-    }
-
-pub IsUtf8-last : (before : List (List ℕ)) (line : List ℕ) (script : Content) → IsScript (before ++ line ∷ []) script → IsUtf8 line
-IsUtf8-last before line script is = AllUtf8-last before line is.utf8
+    let has : HasLast new.names (texts before) (said line) new.lines = AreLines-last new.names (texts before) (said line) new.lines are in
+    let order : AppearInOrder 0 (has.front ++ has.last ∷ []) (length new.names) = subst (λ ls. AppearInOrder 0 ls (length new.names)) has.parts script.clients.order in
+    let appeared : AppearedBefore 0 has.front has.last (length new.names) = appear-last 0 has.front has.last (length new.names) order in
+    let same = names-same old.names new.names 0 (length old.names) appeared.all (texts before) old.lines has.front is.clients.differ script.clients.differ (λ place less. absurd (omega (arith, less))) is.each has.are is.clients.order appeared.order in
+    let next : IsSeenOrNext (length old.names) (client_of has.last) = subst (λ n. IsSeenOrNext n (client_of has.last)) (sym same.0) appeared.next in
+    let seen : seen_with (length old.names) (client_of has.last) ≡ length new.names = subst (λ n. seen_with n (client_of has.last) ≡ length new.names) (sym same.0) appeared.with in
+    (has.last, (has.is.0, rest-before old.names new.names (after_word (said line)) (client_of has.last) has.last script.clients.forms script.clients.differ script.clients.few same.1 next seen has.is.1))
 
 -- what taking a line's text says of the line
-stop-from_unfit : (line : List ℕ) (old : Content) (e : Refusal) → IsUtf8 line → is_skipped (said line) ≡ false → IsUnfit old (said line) e → IsStop line old e
+stop-from_unfit : (line : List ℕ) (old : Content) (e : Refusal) → IsUtf8 line → is_skipped (said line) ≡ false → IsUnfit old (first_word (said line)) (after_word (said line)) e → IsStop line old e
 stop-from_unfit line old (Fault kind) utf8 kept unfit =
-    (subst (IsFault line) (sym unfit.0) utf8, λ before new is script. unfit.1 new (IsNext-from_script before line old new is kept script))
+    (subst (IsFault line) (sym unfit.0) utf8, λ before new is script. (let found = line-before before line old new is kept script in unfit.1 found.0 found.1))
 stop-from_unfit line old OutOfMemory utf8 kept unfit = tt
 
-pub read-from_take : {T : Type 0} (line : List ℕ) (old new : Content) (r : Result T Refusal) → IsUtf8 line → is_skipped (said line) ≡ false
-    → MatchResult r (λ _. IsNext old (said line) new) (IsUnfit old (said line)) → MatchResult r (λ _. ReadsOn line old new) (IsStop line old)
-read-from_take line old new (Ok x) utf8 kept next = λ before is. IsScript-next before line old new is utf8 kept next
-read-from_take line old new (Err e) utf8 kept unfit = stop-from_unfit line old e utf8 kept unfit
+pub read-from_taken : (line : List ℕ) (old : Content) (r : Result Content Refusal) → IsUtf8 line → is_skipped (said line) ≡ false
+    → MatchResult r (IsNext old (first_word (said line)) (after_word (said line))) (IsUnfit old (first_word (said line)) (after_word (said line))) → MatchResult r (ReadsOn line old) (IsStop line old)
+read-from_taken line old (Ok new) utf8 kept next = λ before is. IsScript-next before line old new is utf8 kept next
+read-from_taken line old (Err e) utf8 kept unfit = stop-from_unfit line old e utf8 kept unfit
 
 -- a line that isn't UTF-8 stops
 pub stop-from_bytes : (line : List ℕ) (old : Content) → ¬ (IsUtf8 line) → IsStop line old (Fault NotUtf8)
-stop-from_bytes line old broken = (broken, λ before new is script. broken (IsUtf8-last before line new script))
+stop-from_bytes line old broken = (broken, λ before new is script. broken (AllUtf8-last before line script.utf8))

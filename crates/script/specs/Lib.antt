@@ -1,10 +1,9 @@
+pub mod Clients
 pub mod Delta
-pub mod Form
 pub mod Line
 pub mod Lines
 pub mod Name
 pub mod Next
 pub mod Number
-pub mod Play
 pub mod Script
 pub mod Words

@@ -10,7 +10,7 @@ use Rattle.script.specs.declared.error.ScriptError.{ScriptError}
 use Rattle.script.specs.declared.error.ScriptError.TheVariants.{TooLarge, At, OutOfMemory}
 use Rattle.script.specs.Lines.{lines, texts}
 use Rattle.script.specs.Line.{IsLine}
-use Rattle.script.specs.Play.{IsPlayable}
+use Rattle.script.specs.Clients.{IsNumbered}
 
 -- each text is the line at its place
 abbrev pub AreLines : List (List ℕ) → List (List ℕ) → List ScriptLine → Type 0
@@ -19,11 +19,11 @@ AreLines names [] (line ∷ after) = ⊥
 AreLines names (text ∷ texts) [] = ⊥
 AreLines names (text ∷ texts) (line ∷ after) = IsLine names text line × AreLines names texts after
 
--- lines of bytes that stand for a script: all are UTF-8, and those that aren't skipped are its lines
+-- lines of bytes that stand for a script: all are UTF-8, those that aren't skipped are its lines, and these number the clients
 pub record IsScript (ls : List (List ℕ)) (content : Content) : Type 0 where
   pub utf8 : AllByRecursion IsUtf8 ls
   pub each : AreLines content.names (texts ls) content.lines
-  pub playable : IsPlayable content
+  pub clients : IsNumbered content
 
 -- the bytes are few enough, and their lines stand for the script
 pub record IsScriptOf (bytes : List ℕ) (content : Content) : Type 0 where

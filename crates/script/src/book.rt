@@ -1,35 +1,34 @@
 //! A script that keeps its rules.
-ghost use Rattle.std.specs.Prelude.{◌≡◌, [], ◌∷◌, false, MatchResult, OnErr, IfOk};
-ghost use Rattle.script.specs.Play.{IsPlayable, edited_after};
-ghost use Rattle.script.specs.Next.{no_content, IsNext, IsUnfit};
+ghost use Rattle.std.specs.Prelude.{◌≡◌, MatchResult, IfOk};
+ghost use Rattle.std.specs.Str.{chars};
+ghost use Rattle.script.specs.Clients.{IsNumbered};
+ghost use Rattle.script.specs.Words.{first_word, after_word};
+ghost use Rattle.script.specs.Next.{no_content, IsNext, IsUnfit, names_with};
 
 use crate::content::Content;
 use crate::error::{LineFault, Refusal};
-use crate::form::{joined_name, line_of};
-use crate::line::ScriptLine;
+use crate::form::next_line;
+use crate::words::split_word;
 use plain_list::Items;
 use std::alloc::{AllocError, Global};
 use std::marker::Model;
 use utf16_text::Text;
 
-/// A script of at most one client, whose lines may be played in their order.
+/// A script whose clients are numbered from 0 in the order in which their names first stand.
 #[derive(Debug, Drop)]
 pub struct Script {
     content: Content,
-    /// Whether the last edit still waits for a sync.
-    edited: bool,
 }
 
 impl Model for Script {
-    ghost use Rattle.std.specs.Prelude.{◌≡◌, false};
     ghost use Rattle.script.specs.declared.content.Content.{Content};
-    ghost use Rattle.script.specs.Play.{IsPlayable, edited_after};
+    ghost use Rattle.script.specs.Clients.{IsNumbered};
 
     ghost Value = { Content };
 
     ghost view = { λ s. s.content };
 
-    ghost invariant = { λ s. IsPlayable s.content × (s.edited ≡ edited_after false s.content.lines) };
+    ghost invariant = { λ s. IsNumbered s.content };
 }
 
 impl Script {
@@ -42,64 +41,59 @@ impl Script {
                 names: Items::new(alloc),
                 lines: Items::new(alloc),
             },
-            edited: false,
         }
     }
 
     /// The names and the lines, for reading.
     pub fn content(&self) -> &Content
         ensures value { result.now ≡ self.now }
-        ensures rules { IsPlayable result.now }
+        ensures clients { IsNumbered result.now }
     {
         &self.content
     }
 
-    /// Takes the text of one more line. After a refusal the script is as it was.
-    pub(crate) fn take(&mut self, alloc: Global, text: &str) -> Result<(), Refusal>
-        ensures next { MatchResult result (λ _. IsNext self.old text.now self.new) (IsUnfit self.old text.now) }
-        ensures err { OnErr result (self.new ≡ self.old) }
+    /// The script with the line of a text at its end.
+    pub(crate) fn with(self, alloc: Global, text: &str) -> Result<Script, Refusal>
+        ensures { MatchResult result (IsNext self (first_word text.now) (after_word text.now)) (IsUnfit self (first_word text.now) (after_word text.now)) }
     {
-        let Some(name) = self.content.names.as_slice().first() else {
-            self.content = first_content(alloc, text)?;
-            self.edited = false;
-            return Ok(());
-        };
-        let Some(line) = line_of(alloc, name.as_str(), self.edited, text)? else {
-            return Err(Refusal::Fault(LineFault::Unbuilt));
-        };
-        let edited = is_edited_after(self.edited, &line);
-        self.content.lines.push(line)?;
-        self.edited = edited;
-        Ok(())
+        let Script { content } = self;
+        let content = content_with(alloc, content, text)?;
+        Ok(Script { content })
     }
 }
 
-/// Whether an edit still waits for a sync after this line, where that is known before it.
-fn is_edited_after(edited: bool, line: &ScriptLine) -> bool
-    ensures { result ≡ edited_after edited (line.now ∷ []) }
+/// The content with the line of a text at its end.
+fn content_with(alloc: Global, content: Content, text: &str) -> Result<Content, Refusal>
+    requires { IsNumbered content }
+    ensures { MatchResult result (IsNext content (first_word text.now) (after_word text.now)) (IsUnfit content (first_word text.now) (after_word text.now)) }
 {
-    match line {
-        ScriptLine::Edit { .. } => true,
-        ScriptLine::Sync => false,
-        ScriptLine::Join { .. }
-        | ScriptLine::Post { .. }
-        | ScriptLine::Show { .. }
-        | ScriptLine::Settle
-        | ScriptLine::Cells => edited,
-    }
-}
-
-/// The script of one line with this text.
-fn first_content(alloc: Global, text: &str) -> Result<Content, Refusal>
-    ensures next { MatchResult result (IsNext no_content text.now) (IsUnfit no_content text.now) }
-    ensures edited { IfOk result (λ c. edited_after false c.lines ≡ false) }
-{
-    let Some(name) = joined_name(text) else {
+    let (word, rest) = split_word(text);
+    let Some(line) = next_line(alloc, content.names.as_slice(), word, rest)? else {
         return Err(Refusal::Fault(LineFault::Unbuilt));
     };
-    let mut names = Items::new(alloc);
-    names.push(Text::of(alloc, name)?)?;
-    let mut lines = Items::new(alloc);
-    lines.push(ScriptLine::Join { client: 0 })?;
+    let Content { names, mut lines } = content;
+    let names = names_with(alloc, names, line.client(), rest)?;
+    lines.push(line)?;
     Ok(Content { names, lines })
+}
+
+/// The names after a line of this client, whose name stands at the front of the text: with it at the
+/// end where the client is the next new one.
+fn names_with(
+    alloc: Global,
+    mut names: Items<Text>,
+    client: Option<u32>,
+    text: &str,
+) -> Result<Items<Text>, AllocError>
+    ensures { IfOk result (λ new. new ≡ names_with names client (chars (first_word text.now))) }
+{
+    let Some(client) = client else {
+        return Ok(names);
+    };
+    if client as usize != names.len() {
+        return Ok(names);
+    }
+    let (name, _) = split_word(text);
+    names.push(Text::of(alloc, name)?)?;
+    Ok(names)
 }

@@ -1,101 +1,120 @@
 //! Texts as lines of a script.
-ghost use Rattle.std.specs.Prelude.{ℕ, List, [], ◌∷◌, IfOk, MatchOption};
+ghost use Rattle.std.specs.Prelude.{◌≢◌, ℕ, ◌≤◌, length, codes, IfOk, MatchOption};
 ghost use Rattle.script.specs.declared.line.PostedOp.{PostedOp as PostedOpValue};
-ghost use Rattle.script.specs.Line.{IsOp};
-ghost use Rattle.script.specs.Form.{Tells, FitsAt, IsEditLine, IsPostLine, IsShowLine, IsSyncLine, IsSettleLine, IsCellsLine, IsJoinName};
+ghost use Rattle.script.specs.declared.line.Count.{Count as CountValue};
+ghost use Rattle.script.specs.Line.{IsOp, IsCount};
+ghost use Rattle.script.specs.Clients.{AreNames, Differ};
+ghost use Rattle.script.specs.Next.{Tells, IsNextLine, IsPlainLine, IsClientLine};
 
 use crate::delta_text::delta_of;
-use crate::line::{PostedOp, ScriptLine};
-use crate::words::{is_name, number_of, split_word};
+use crate::line::{Count, PostedOp, ScriptLine};
+use crate::names::number_in;
+use crate::words::{number_of, split_word};
 use std::alloc::{AllocError, Global};
+use utf16_text::Text;
 
-/// The name that a text joins, where it is `join NAME`.
-pub(crate) fn joined_name(text: &str) -> Option<&str>
-    ensures { MatchOption result ((name : List ℕ) → ¬ (IsJoinName text.now name)) (λ name. IsJoinName text.now name.now) }
-{
-    let (word, rest) = split_word(text);
-    if word == "join" && is_name(rest) {
-        Some(rest)
-    } else {
-        None
-    }
-}
-
-/// The line that a text is after the join of this name, where an edit that no sync has followed
-/// stands before it or not.
-pub(crate) fn line_of(
+/// The line that a word and what follows it are after lines with these names, if they are one.
+pub(crate) fn next_line(
     alloc: Global,
-    name: &str,
-    edited: bool,
-    text: &str,
+    names: &[Text],
+    word: &str,
+    rest: &str,
 ) -> Result<Option<ScriptLine>, AllocError>
-    ensures { IfOk result (Tells (FitsAt (name.now ∷ []) edited text.now)) }
+    requires forms { AreNames names.now }
+    requires differ { Differ names.now }
+    requires few { length names.now ≤ 64 }
+    ensures { IfOk result (Tells (IsNextLine names.now word.now rest.now)) }
 {
-    let (word, rest) = split_word(text);
-    if word == "sync" {
-        return Ok(sync_line(rest));
+    if let Some(line) = plain_line(word, rest) {
+        return Ok(Some(line));
     }
-    if word == "settle" {
-        return Ok(settle_line(rest));
-    }
-    if word == "cells" {
-        return Ok(cells_line(rest));
-    }
-    if word == "post" {
-        return Ok(post_line(name, rest));
-    }
-    if word == "show" {
-        return Ok(show_line(name, rest));
-    }
-    if word == "edit" && !edited {
-        return edit_line(alloc, name, rest);
-    }
-    Ok(None)
+    let (name, rest) = split_word(rest);
+    let Some(client) = number_in(names, name) else {
+        return Ok(None);
+    };
+    client_line(alloc, word, client, rest)
 }
 
-/// The line of what follows `sync`: nothing.
-fn sync_line(rest: &str) -> Option<ScriptLine>
-    ensures { Tells (IsSyncLine rest.now) result }
+/// The line without a client that begins with a word and ends with the rest.
+fn plain_line(word: &str, rest: &str) -> Option<ScriptLine>
+    ensures { Tells (IsPlainLine word.now rest.now) result }
 {
-    if rest.is_empty() {
-        Some(ScriptLine::Sync)
-    } else {
-        None
-    }
-}
-
-/// The line of what follows `settle`: nothing.
-fn settle_line(rest: &str) -> Option<ScriptLine>
-    ensures { Tells (IsSettleLine rest.now) result }
-{
-    if rest.is_empty() {
-        Some(ScriptLine::Settle)
-    } else {
-        None
-    }
-}
-
-/// The line of what follows `cells`: nothing.
-fn cells_line(rest: &str) -> Option<ScriptLine>
-    ensures { Tells (IsCellsLine rest.now) result }
-{
-    if rest.is_empty() {
-        Some(ScriptLine::Cells)
-    } else {
-        None
-    }
-}
-
-/// The line of what follows `post`: the client's name and an operation.
-fn post_line(name: &str, rest: &str) -> Option<ScriptLine>
-    ensures { Tells (IsPostLine (name.now ∷ []) rest.now) result }
-{
-    let (poster, rest) = split_word(rest);
-    if poster != name {
+    if !rest.is_empty() {
         return None;
     }
-    let op = op_of(rest)?;
-    Some(ScriptLine::Post { client: 0, op })
+    if word == "sync" {
+        return Some(ScriptLine::Sync);
+    }
+    if word == "settle" {
+        return Some(ScriptLine::Settle);
+    }
+    if word == "cells" {
+        return Some(ScriptLine::Cells);
+    }
+    None
+}
+
+/// The line of a client that begins with a word and ends with the rest.
+fn client_line(
+    alloc: Global,
+    word: &str,
+    client: u32,
+    rest: &str,
+) -> Result<Option<ScriptLine>, AllocError>
+    ensures { IfOk result (Tells (IsClientLine word.now client rest.now)) }
+{
+    if word == "edit" {
+        return edit_line(alloc, client, rest);
+    }
+    Ok(short_line(word, client, rest))
+}
+
+/// The line of a client that begins with a word, which isn't `edit`, and ends with the rest.
+fn short_line(word: &str, client: u32, rest: &str) -> Option<ScriptLine>
+    requires { word.now ≢ codes "edit" }
+    ensures { Tells (IsClientLine word.now client rest.now) result }
+{
+    if word == "join" && rest.is_empty() {
+        return Some(ScriptLine::Join { client });
+    }
+    if word == "show" && rest.is_empty() {
+        return Some(ScriptLine::Show { client });
+    }
+    if word == "post" {
+        let op = op_of(rest)?;
+        return Some(ScriptLine::Post { client, op });
+    }
+    if word == "send" {
+        let count = count_of(rest)?;
+        return Some(ScriptLine::Send { client, count });
+    }
+    if word == "recv" {
+        let count = count_of(rest)?;
+        return Some(ScriptLine::Recv { client, count });
+    }
+    if word == "pending" {
+        let cell = number_of(rest)?;
+        return Some(ScriptLine::Pending { client, cell });
+    }
+    None
+}
+
+/// The line of a client that begins with `edit` and ends with the rest: a cell's number and a delta.
+fn edit_line(alloc: Global, client: u32, rest: &str) -> Result<Option<ScriptLine>, AllocError>
+    ensures { IfOk result (Tells (IsClientLine (codes "edit") client rest.now)) }
+{
+    let (number, rest) = split_word(rest);
+    let Some(cell) = number_of(number) else {
+        return Ok(None);
+    };
+    let Some(delta) = delta_of(alloc, rest)? else {
+        return Ok(None);
+    };
+    Ok(Some(ScriptLine::Edit {
+        client,
+        cell,
+        delta,
+    }))
 }
 
 /// The operation that a text writes: `queue` and a cell's number.
@@ -110,35 +129,13 @@ fn op_of(text: &str) -> Option<PostedOp>
     Some(PostedOp::Queue { cell })
 }
 
-/// The line of what follows `show`: the client's name.
-fn show_line(name: &str, rest: &str) -> Option<ScriptLine>
-    ensures { Tells (IsShowLine (name.now ∷ []) rest.now) result }
+/// The count that a text writes: a number or `all`.
+fn count_of(text: &str) -> Option<Count>
+    ensures { MatchOption result ((count : CountValue) → ¬ (IsCount text.now count)) (IsCount text.now) }
 {
-    if rest == name {
-        Some(ScriptLine::Show { client: 0 })
-    } else {
-        None
+    if text == "all" {
+        return Some(Count::All);
     }
-}
-
-/// The line of what follows `edit`: the client's name, a cell's number and a delta.
-fn edit_line(alloc: Global, name: &str, rest: &str) -> Result<Option<ScriptLine>, AllocError>
-    ensures { IfOk result (Tells (IsEditLine (name.now ∷ []) rest.now)) }
-{
-    let (client, rest) = split_word(rest);
-    let (number, rest) = split_word(rest);
-    if client != name {
-        return Ok(None);
-    }
-    let Some(cell) = number_of(number) else {
-        return Ok(None);
-    };
-    let Some(delta) = delta_of(alloc, rest)? else {
-        return Ok(None);
-    };
-    Ok(Some(ScriptLine::Edit {
-        client: 0,
-        cell,
-        delta,
-    }))
+    let most = number_of(text)?;
+    Some(Count::AtMost(most))
 }

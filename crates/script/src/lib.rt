@@ -1,6 +1,6 @@
-//! Scripts: what one client does to a book, as lines of text.
+//! Scripts: what clients do to a book, as lines of text.
 //!
-//! What the layers above may rely on: each value of `Script` keeps the rules of `IsPlayable`, and
+//! What the layers above may rely on: each value of `Script` keeps the rules of `IsNumbered`, and
 //! contracts see it as the record of its names and lines.
 #![tactic(auto)]
 
@@ -11,13 +11,14 @@ mod delta_text;
 mod error;
 mod form;
 mod line;
+mod names;
 mod read;
 mod words;
 
 pub use book::Script;
 pub use content::Content;
 pub use error::{LineFault, ScriptError};
-pub use line::{PostedOp, ScriptLine};
+pub use line::{Count, PostedOp, ScriptLine};
 pub use read::read_script;
 
 #[cfg(test)]

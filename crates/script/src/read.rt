@@ -1,5 +1,7 @@
 //! Bytes as a script.
-ghost use Rattle.std.specs.Prelude.{◌≡◌, MatchResult};
+ghost use Rattle.std.specs.Prelude.{◌≡◌, ◌≢◌, IfOk, IfErr, MatchResult};
+ghost use Rattle.script.specs.declared.error.ScriptError.TheVariants.{OutOfMemory as ScriptMemory};
+ghost use Rattle.script.specs.declared.content.Content.{Content};
 ghost use Rattle.script.specs.Script.{IsScriptOf, IsScriptCause};
 ghost use Rattle.script.specs.Next.{ReadsOn, IsStop};
 
@@ -17,12 +19,14 @@ const MAX_BYTES: usize = 8_388_608;
 ///
 /// It answers `TooLarge` exactly where there are more than 8,388,608 bytes, and else `At` exactly
 /// at the first line, counted from 1, that isn't UTF-8 or isn't one of the lines `join NAME`,
-/// `edit NAME CELL DELTA`, `post NAME queue CELL`, `sync`, `show NAME`, `settle` and `cells` in its
-/// form and at its place: `join` is the first line that isn't skipped and stands nowhere else, the
-/// names are all that of `join`, and a `sync` stands between two edits. The rules are this
-/// project's own.
+/// `edit NAME CELL DELTA`, `post NAME queue CELL`, `send NAME COUNT`, `recv NAME COUNT`, `sync`,
+/// `show NAME`, `pending NAME CELL`, `settle` and `cells` in its form, or has a name that would be
+/// the 65th. COUNT is a number or `all`. The lines stand in any order and number; whether a client
+/// has joined is not looked at.
 pub fn read_script(alloc: Global, bytes: &[u8]) -> Result<Script, ScriptError>
-    ensures { MatchResult result (IsScriptOf bytes.now) (IsScriptCause bytes.now) }
+    ensures script { MatchResult result (IsScriptOf bytes.now) (IsScriptCause bytes.now) }
+    ensures single { IfOk result (λ script. (other : Content) → IsScriptOf bytes.now other → other ≡ script) }
+    ensures none { IfErr result (λ error. error ≢ ScriptMemory → (other : Content) → ¬ (IsScriptOf bytes.now other)) }
 {
     if bytes.len() > MAX_BYTES {
         return Err(ScriptError::TooLarge);
@@ -33,8 +37,11 @@ pub fn read_script(alloc: Global, bytes: &[u8]) -> Result<Script, ScriptError>
     while !rest.is_empty() {
         let (piece, after) = first_line(rest);
         line += 1;
-        match read_line(alloc, &mut script, piece) {
-            Ok(()) => rest = after,
+        match with_line(alloc, script, piece) {
+            Ok(longer) => {
+                script = longer;
+                rest = after;
+            }
             Err(Refusal::Fault(kind)) => return Err(ScriptError::At { line, kind }),
             Err(Refusal::OutOfMemory) => return Err(ScriptError::OutOfMemory),
         }
@@ -42,16 +49,16 @@ pub fn read_script(alloc: Global, bytes: &[u8]) -> Result<Script, ScriptError>
     Ok(script)
 }
 
-/// Reads one more line of a script.
-fn read_line(alloc: Global, script: &mut Script, line: &[u8]) -> Result<(), Refusal>
-    ensures { MatchResult result (λ _. ReadsOn line.now script.old script.new) (IsStop line.now script.old) }
+/// The script with one more line of bytes.
+fn with_line(alloc: Global, script: Script, line: &[u8]) -> Result<Script, Refusal>
+    ensures { MatchResult result (ReadsOn line.now script) (IsStop line.now script) }
 {
     let Ok(line) = str::from_utf8(line) else {
         return Err(Refusal::Fault(LineFault::NotUtf8));
     };
     let text = said(line);
     if is_skipped(text) {
-        return Ok(());
+        return Ok(script);
     }
-    script.take(alloc, text)
+    script.with(alloc, text)
 }

@@ -3,7 +3,7 @@
 use super::*;
 use crate::error::LineFault::{NotUtf8, Unbuilt};
 use delta::Step;
-use std::alloc::Global;
+use std::alloc::{AllocError, Global};
 use std::test::Fail;
 
 /// How many lines a script has.
@@ -30,6 +30,11 @@ fn lines_are_read_or_refused(rt: HostRuntime) -> Result<(), Fail> {
             Ok(3),
         ),
         (b"join a234567890_b2345\nsync\nsync\n".as_slice(), Ok(3)),
+        (b"sync\nshow ann\njoin ann\njoin ann\n".as_slice(), Ok(4)),
+        (
+            b"join ann\njoin bob\nsend bob 1\nsettle\ncells".as_slice(),
+            Ok(5),
+        ),
         (
             b"join ann\n#\xff\nfly\n".as_slice(),
             Err(ScriptError::At {
@@ -38,21 +43,47 @@ fn lines_are_read_or_refused(rt: HostRuntime) -> Result<(), Fail> {
             }),
         ),
         (b"fly\n#\xff\n".as_slice(), bad(1)),
-        (b"sync\n".as_slice(), bad(1)),
         (b"join\n".as_slice(), bad(1)),
         (b"join ann bob\n".as_slice(), bad(1)),
         (b"join Ann\n".as_slice(), bad(1)),
         (b"join 1ann\n".as_slice(), bad(1)),
         (b"join a234567890_b23456\n".as_slice(), bad(1)),
-        (b"join ann\nsend ann 1\n".as_slice(), bad(2)),
-        (b"join ann\n\n#x\njoin ann\n".as_slice(), bad(4)),
-        (b"join ann\nshow bob\n".as_slice(), bad(2)),
+        (b"join ann\nleave ann\n".as_slice(), bad(2)),
+        (b"join ann\n\n#x\nshow Ann\n".as_slice(), bad(4)),
         (b"join ann\nshow\n".as_slice(), bad(2)),
         (b"join ann\nsync ann\n".as_slice(), bad(2)),
         (b"join ann\nsync\r ".as_slice(), bad(2)),
     ];
     for (bytes, want) in cases {
         assert_eq!(rt; line_count(alloc, bytes), want, "{}", bytes.len());
+    }
+    Ok(())
+}
+
+#[test]
+fn counts_and_cells_are_read_or_refused(rt: HostRuntime) -> Result<(), Fail> {
+    let alloc = rt.alloc();
+    let cases = [
+        ("send ann 0", Ok(1)),
+        ("send ann\tall", Ok(1)),
+        ("recv ann 18446744073709551615", Ok(1)),
+        ("recv ann all", Ok(1)),
+        ("pending ann 00000000000000000007", Ok(1)),
+        ("post ann queue 1", Ok(1)),
+        ("send ann", bad(1)),
+        ("send all", bad(1)),
+        ("send ann 18446744073709551616", bad(1)),
+        ("send ann 1 2", bad(1)),
+        ("recv ann ALL", bad(1)),
+        ("recv ann all 1", bad(1)),
+        ("recv Ann all", bad(1)),
+        ("pending ann all", bad(1)),
+        ("pending ann", bad(1)),
+        ("post ann cancel 1", bad(1)),
+        ("post ann queue", bad(1)),
+    ];
+    for (line, want) in cases {
+        assert_eq!(rt; line_count(alloc, line.as_bytes()), want, "{line}");
     }
     Ok(())
 }
@@ -69,12 +100,12 @@ fn edits_are_read_or_refused(rt: HostRuntime) -> Result<(), Fail> {
         ("edit ann 00000000000000000007 []", Ok(2)),
         ("edit ann 1 [-4611686018427387904]", Ok(2)),
         ("edit ann 1 [\"a\"]\nsync\nedit ann 2 [\"b\"]", Ok(4)),
-        ("edit ann 1 [\"a\"]\nshow ann\nedit ann 2 [\"b\"]", bad(4)),
+        ("edit ann 1 [\"a\"]\nedit bob 2 [\"b\"]", Ok(3)),
         ("edit ann 000000000000000000007 []", bad(2)),
         ("edit ann 18446744073709551616 []", bad(2)),
         ("edit ann +1 []", bad(2)),
         ("edit ann []", bad(2)),
-        ("edit bob 1 []", bad(2)),
+        ("edit Bob 1 []", bad(2)),
         ("edit ann 1", bad(2)),
         ("edit ann 1 [1", bad(2)),
         ("edit ann 1 [] []", bad(2)),
@@ -97,14 +128,9 @@ fn edits_are_read_or_refused(rt: HostRuntime) -> Result<(), Fail> {
 }
 
 #[test]
-fn a_script_tells_its_names_and_lines(rt: HostRuntime) -> Result<(), Fail> {
+fn a_script_tells_its_lines(rt: HostRuntime) -> Result<(), Fail> {
     let alloc = rt.alloc();
     let script = read_script(alloc, b"join ann\nedit ann 1 [1,\"X\"]\nsync\nshow ann\n")?;
-    let content = script.content();
-    let [name] = content.names.as_slice() else {
-        return Err("one name")?;
-    };
-    assert_eq!(rt; name.as_str(), "ann");
     let [
         ScriptLine::Join { client: 0 },
         ScriptLine::Edit {
@@ -114,7 +140,7 @@ fn a_script_tells_its_names_and_lines(rt: HostRuntime) -> Result<(), Fail> {
         },
         ScriptLine::Sync,
         ScriptLine::Show { client: 0 },
-    ] = content.lines.as_slice()
+    ] = script.content().lines.as_slice()
     else {
         return Err("four lines")?;
     };
@@ -122,6 +148,72 @@ fn a_script_tells_its_names_and_lines(rt: HostRuntime) -> Result<(), Fail> {
         return Err("two steps")?;
     };
     assert_eq!(rt; text.as_str(), "X");
+    Ok(())
+}
+
+#[test]
+fn counts_are_told_apart(rt: HostRuntime) -> Result<(), Fail> {
+    let alloc = rt.alloc();
+    let script = read_script(alloc, b"send ann all\nrecv bob 2\n")?;
+    let [
+        ScriptLine::Send {
+            client: 0,
+            count: Count::All,
+        },
+        ScriptLine::Recv {
+            client: 1,
+            count: Count::AtMost(2),
+        },
+    ] = script.content().lines.as_slice()
+    else {
+        return Err("two lines")?;
+    };
+    Ok(())
+}
+
+/// The names of a script, each with a blank after it, and the clients of its lines.
+fn names_and_clients(alloc: Global, bytes: &[u8]) -> Result<(String, Vec<Option<u32>>), Fail> {
+    let script = read_script(alloc, bytes)?;
+    let mut names = String::new(alloc);
+    for name in script.content().names.as_slice() {
+        names.push_str(name.as_str())?;
+        names.push_str(" ")?;
+    }
+    let mut clients = Vec::new(alloc);
+    for line in script.content().lines.as_slice() {
+        clients.push(line.client())?;
+    }
+    Ok((names, clients))
+}
+
+#[test]
+fn clients_are_numbered_as_their_names_appear(rt: HostRuntime) -> Result<(), Fail> {
+    let text = b"show bob\njoin ann\nsync\n#carl\njoin bob\npending dan 1\nshow ann\n";
+    let (names, clients) = names_and_clients(rt.alloc(), text)?;
+    assert_eq!(rt; names.as_str(), "bob ann dan ");
+    let want = [Some(0), Some(1), None, Some(0), Some(2), Some(1)];
+    assert_eq!(rt; clients.as_slice(), want.as_slice());
+    Ok(())
+}
+
+/// A script in which so many clients join, and then the first and the last are shown.
+fn script_of(alloc: Global, clients: usize) -> Result<String, AllocError> {
+    let mut text = String::new(alloc);
+    for client in 0..clients {
+        let line = format!(in alloc; "join c{client}\n")?;
+        text.push_str(line.as_str())?;
+    }
+    text.push_str("show c0\nshow c63\n")?;
+    Ok(text)
+}
+
+#[test]
+fn there_are_64_names(rt: HostRuntime) -> Result<(), Fail> {
+    let alloc = rt.alloc();
+    let most = script_of(alloc, 64)?;
+    assert_eq!(rt; line_count(alloc, most.as_bytes()), Ok(66));
+    let over = script_of(alloc, 65)?;
+    assert_eq!(rt; line_count(alloc, over.as_bytes()), bad(65));
     Ok(())
 }
 

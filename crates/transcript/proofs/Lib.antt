@@ -1,3 +1,4 @@
 pub mod Agreeing
 pub mod Revisions
 pub mod Sample
+pub mod Steps

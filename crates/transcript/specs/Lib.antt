@@ -1,3 +1,4 @@
+pub mod Deltas
 pub mod Left
 pub mod Texts
 pub mod States

@@ -2,9 +2,10 @@
 ghost use Rattle.std.specs.Prelude.{◌≡◌, IfOk};
 
 use crate::{
-    book_text, push_book, push_number, push_refusal, push_reply, push_text, reply_text, rev_in,
+    book_text, push_book, push_delta, push_number, push_refusal, push_reply, push_text, reply_text,
+    rev_in,
 };
-use delta::Delta;
+use delta::{Delta, Step};
 use notebook::{Cell, Kind, Notebook, Parts, Section};
 use plain_list::Items;
 use session_ops::{Refusal, Reply};
@@ -71,6 +72,26 @@ fn texts(rt: HostRuntime) -> Result<(), Fail> {
         push_text(&mut out, *text)?;
         assert_eq!(rt; out.as_str().strip_prefix("x "), Some(*want));
     }
+    Ok(())
+}
+
+/// The text of a delta, after a word.
+fn delta_text(alloc: Global, steps: Vec<Step>) -> Result<String, Fail> {
+    let delta = Delta::from_compact(steps).ok().ok_or("delta")?;
+    let mut out = String::from_str(alloc, "inflight ")?;
+    push_delta(&mut out, &delta)?;
+    Ok(out)
+}
+
+#[test]
+fn deltas(rt: HostRuntime) -> Result<(), Fail> {
+    let alloc = rt.alloc();
+    let none = delta_text(alloc, Vec::new(alloc))?;
+    assert_eq!(rt; none.as_str(), "inflight []");
+    let quote = Text::of(alloc, "a😀\"\n")?;
+    let steps = vec![in alloc; Step::Retain(907), Step::Insert(quote), Step::Delete(1)]?;
+    let three = delta_text(alloc, steps)?;
+    assert_eq!(rt; three.as_str(), "inflight [907,\"a😀\\\"\\n\",-1]");
     Ok(())
 }
 
