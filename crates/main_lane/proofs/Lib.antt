@@ -3,12 +3,13 @@ pub mod Holding
 pub mod Writing
 pub mod Places
 pub mod Judged
+pub mod Running
 pub mod Next
 pub mod Calls
 pub mod Sweeping
 pub mod Queueing
-pub mod Editing
+pub mod Ready
 pub mod Paths
 pub mod Walking
-pub mod Ready
-pub mod Evaluating
+pub mod Editing
+pub mod Starting
