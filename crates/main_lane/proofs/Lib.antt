@@ -13,3 +13,4 @@ pub mod Paths
 pub mod Walking
 pub mod Editing
 pub mod Starting
+pub mod Finishing

@@ -1,6 +1,6 @@
 -- The one evaluation that runs, as the lane keeps it.
-use Rattle.std.proofs.Common.{◌≡◌, ℕ, ◌==◌, ◌||◌, true, false, cond, List, [], ◌∷◌, ◌++◌, map, length, Option, Some, None, refl, sym, ap, subst, ◌∙◌, arith}
-use Rattle.std.specs.Prelude.{if◌then◌else◌, option_map, option_and_then, find, is_none}
+use Rattle.std.proofs.Common.{◌≡◌, ℕ, ◌==◌, ◌||◌, not, Bool, true, false, cond, List, [], ◌∷◌, ◌++◌, map, length, Option, Some, None, refl, sym, ap, subst, ◌∙◌, arith}
+use Rattle.std.specs.Prelude.{if◌then◌else◌, option_map, option_and_then, find, is_none, is_some}
 use Rattle.std.specs.List.{list_any}
 use Rattle.std.proofs.lemmas.Bool.Decides.{nat_tests}
 use Rattle.ex_model.specs.declared.bindings.Binding.{Binding}
@@ -45,6 +45,12 @@ rests n s rs bs None [] h = refl
 rests n s rs bs None (r ∷ more) h = absurd h
 rests n s rs bs (Some u) [] h = absurd h
 rests n s rs bs (Some u) (r ∷ more) h = let e : (length (r ∷ more) == 0) ≡ false = grind (arith, nat_tests) in sym e
+
+pub none-told : {X : Type 0} (o : Option X) (b : Bool) → is_some o ≡ not b → b ≡ is_none o
+none-told None true e = refl
+none-told None false e = absurd (cc e)
+none-told (Some x) true e = absurd (cc e)
+none-told (Some x) false e = refl
 
 -- the running evaluation of a number is the kept one
 pub record TheOne (n : Parts) (s : ℕ) (rs : List Read) (bs : List Binding) (o : Option Underway) (running : List Running) (r : Running) : Type 0 where

@@ -193,8 +193,8 @@ started-lane n w old new at c t job mid r k m tr rests count cell source base a 
     }
 
 -- where nothing runs, the lane stands for the same with another context
-pub moved-lane : (n : Parts) (w : Work) (old new : MainLane) → Tracks n w old → w.running ≡ [] → old.running ≡ None → IsContext old.reads.items new.context → new.reads ≡ old.reads → new.marks ≡ old.marks → new.running ≡ None → Tracks n w new
-moved-lane n w old new tr rests none context reads marks running =
+pub moved-lane : (n : Parts) (w : Work) (old new : MainLane) → Tracks n w old → w.running ≡ [] → IsContext old.reads.items new.context → new.reads.items ≡ old.reads.items → new.marks.items ≡ old.marks.items → new.running ≡ None → Tracks n w new
+moved-lane n w old new tr rests context reads marks running =
     let h : Holds n w old.reads.items old.marks.items old.context = holds_of n w old tr in
     let held : Holds n w old.reads.items old.marks.items new.context = record { unbranched = h.unbranched; distinct = h.distinct; lane = h.lane; started = h.started; told = h.told; kept = h.kept; after = context } in
     tracks_from n w new (rw (reads, marks) held) (rw (running, rests) tt) (hope_of n w old tr)
