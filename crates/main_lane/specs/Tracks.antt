@@ -1,5 +1,5 @@
 -- What a main lane stands for, and what its calls answer.
-use Rattle.std.specs.Prelude.{◌≡◌, ℕ, ◌+◌, List, [], ◌∷◌, ◌++◌, map, length, Option, Some, None, option_map, slice_get}
+use Rattle.std.specs.Prelude.{◌≡◌, ℕ, ◌+◌, List, [], ◌∷◌, ◌++◌, map, length, Option, Some, None, option_map, slice_get, find}
 use Rattle.std.specs.Option.{option_copied}
 use Rattle.std.specs.List.{AllByRecursion}
 use Rattle.ex_model.specs.declared.bindings.Binding.{Binding}
@@ -12,7 +12,7 @@ use Rattle.notebook.specs.Book.{cells, found}
 use Rattle.notebook.specs.Rules.{cell_number, AreDistinct}
 use Rattle.notebook.specs.Flow.{Passed, path, lane_of, lane_cells, IsUnbranched}
 use Rattle.notebook.specs.Validity.{validity_by, status_by}
-use Rattle.session_ops.specs.Work.{Work, Running, Finished, is_in, is_running, last_finished, path_read, failed_ancestor, may_start, begun, stored, running_eval, swept}
+use Rattle.session_ops.specs.Work.{Work, Running, Finished, is_in, is_running, last_finished, path_read, failed_ancestor, may_start, begun, stored, is_eval, running_eval, swept}
 use Rattle.session_ops.specs.State.{ShowsAlong, source_bytes}
 use Rattle.main_lane.specs.declared.reads.Read.{Read}
 use Rattle.main_lane.specs.declared.marks.Mark.{Mark}
@@ -87,10 +87,13 @@ abbrev pub IsAlong : List Passed → PlainJob → Type 0
 IsAlong p job = EndsOver p (record { cell = job.cell; source = job.source }) job.base
 
 -- the job runs: the running evaluation of its number is along the path that was read at the start
-pub record IsOut (w : Work) (job : PlainJob) : Type 0 where
+pub record IsOutAmong (evaluations : List Running) (job : PlainJob) : Type 0 where
   pub running : Running
-  pub runs : running_eval w job.eval ≡ Some running
+  pub runs : find (is_eval job.eval) evaluations ≡ Some running
   pub along : IsAlong running.path job
+
+abbrev pub IsOut : Work → PlainJob → Type 0
+IsOut w job = IsOutAmong w.running job
 
 -- the work after the job's start, with its sweep
 abbrev pub once_begun : Parts → Work → PlainJob → Work

@@ -66,12 +66,7 @@ impl Context {
     }
 
     /// Goes on to the path at the places; after a fault the context stays.
-    fn advance(
-        &mut self,
-        alloc: Global,
-        places: &[usize],
-        ran: &Ran,
-    ) -> Result<(), AllocError>
+    fn advance(&mut self, alloc: Global, places: &[usize], ran: &Ran) -> Result<(), AllocError>
         ensures { OnOk result (HasAdvanced ran.now.shown.outcome places.now ran.now.made self.old self.new) }
     {
         match &ran.shown.outcome {

@@ -1,5 +1,5 @@
 //! The main lane over a notebook without branches.
-ghost use Rattle.std.specs.Prelude.{◌≡◌, ◌<◌, ℕ, List, [], ◌∷◌, ◌++◌, None, Some, IfOk, OnOk, MatchResult, length};
+ghost use Rattle.std.specs.Prelude.{◌≡◌, ◌<◌, ◌^◌, ℕ, List, [], ◌∷◌, ◌++◌, None, Some, IfOk, OnOk, MatchResult, length};
 ghost use Rattle.std.specs.Str.{encode_utf8_all};
 ghost use Rattle.ex_model.specs.Along.{MeansInCell};
 ghost use Rattle.notebook.specs.declared.parts.Parts.{Parts};
@@ -116,7 +116,8 @@ impl MainLane {
 
     /// How many evaluations were started, which is the number of the last one. Takes no memory.
     pub fn started(&self) -> u64
-        ensures { (n : Parts) (w : Work) → Tracks n w self.now → result ≡ w.started }
+        ensures count { (n : Parts) (w : Work) → Tracks n w self.now → result ≡ w.started }
+        ensures bound { result < 2 ^ 63 }
     {
         self.reads.len() as u64
     }
@@ -145,11 +146,7 @@ impl MainLane {
     /// Starts the evaluation of the cell that may be evaluated next, and hands it out: it runs until
     /// [`finish`](MainLane::finish), and its cell isn't queued any more. `None` exactly where no cell may
     /// start, and then nothing is changed. After want of memory the lane stands for what it stood for.
-    pub fn start(
-        &mut self,
-        alloc: Global,
-        book: &Notebook,
-    ) -> Result<Option<PlainJob>, AllocError>
+    pub fn start(&mut self, alloc: Global, book: &Notebook) -> Result<Option<PlainJob>, AllocError>
         ensures { (w : Work) → Tracks book.now w self.old → MatchResult result (HasTried book.now w self.new) (λ e. Tracks book.now w self.new) }
     {
         match self.next_place() {
@@ -165,12 +162,7 @@ impl MainLane {
     }
 
     /// Starts the evaluation of the cell at a place, the first that is wanted.
-    fn start_at(
-        &mut self,
-        alloc: Global,
-        at: usize,
-        cell: &Cell,
-    ) -> Result<PlainJob, AllocError>
+    fn start_at(&mut self, alloc: Global, at: usize, cell: &Cell) -> Result<PlainJob, AllocError>
         requires { at < length self.old.marks.items }
         ensures { (n : Parts) (w : Work) → Tracks n w self.old → self.old.running ≡ None → IsNext n self.old.marks.items at cell.now → MatchResult result (λ job. HasStarted n w job self.new) (λ e. Tracks n w self.new) }
     {

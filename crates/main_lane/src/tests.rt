@@ -57,9 +57,7 @@ fn keeps_what_was_read_at_the_start(rt: HostRuntime) -> Result<(), Fail> {
         }
     }
     let row = lane.row(0);
-    assert!(rt;
-        row.is_some_and(|r| r.status == Status::Queued && r.validity == Validity::Stale)
-    );
+    assert!(rt; row.is_some_and(|r| r.status == Status::Queued && r.validity == Validity::Stale));
     assert_eq!(rt; lane.started(), 1);
     assert!(rt; lane.row(1).is_none());
     Ok(())
