@@ -1,10 +1,9 @@
 -- After the answer of the evaluation that runs.
-use Rattle.std.proofs.Common.{◌≡◌, ℕ, ◌==◌, ◌||◌, not, true, false, cond, List, [], ◌∷◌, ◌++◌, map, get_or, Option, Some, None, refl, sym, ap, subst, ◌∙◌, eq-eqb, ◌⊎◌, inl, inr}
+use Rattle.std.proofs.Common.{◌≡◌, ℕ, not, true, false, cond, List, [], ◌∷◌, ◌++◌, map, get_or, Some, None, refl, sym, ap, subst, ◌∙◌, eq-eqb, ◌⊎◌, inl, inr}
 use Rattle.std.specs.Prelude.{option_map, slice_set, filter, find}
 use Rattle.std.specs.Str.{encode_utf8_all}
 use Rattle.std.specs.List.{AllByRecursion}
 use Rattle.std.proofs.lemmas.List.{map-append}
-use Rattle.ex_model.specs.declared.bindings.Binding.{Binding}
 use Rattle.ex_model.specs.declared.ran.Ran.{Ran}
 use Rattle.ex_model.specs.declared.ran.Shown.{Shown}
 use Rattle.ex_model.specs.declared.ran.Outcome.{Outcome}
@@ -16,7 +15,6 @@ use Rattle.notebook.specs.declared.parts.Parts.{Parts}
 use Rattle.notebook.specs.declared.states.Lane.TheVariants.{Main}
 use Rattle.notebook.specs.Book.{cells}
 use Rattle.notebook.specs.Flow.{Passed, passed, path, lane_cells}
-use Rattle.notebook.specs.Validity.{same_path}
 use Rattle.session_ops.specs.Work.{Work, Running, Finished, is_in, is_of_cell, is_other_eval, without_number, last_finished, running_eval, stored, swept}
 use Rattle.session_ops.specs.State.{source_bytes, ShowsAlong}
 use Rattle.session_ops.proofs.MainFlow.{has_number, Stands, AllStand, IsFoundIn, main-found, main-apart, lane-out, path-none}
@@ -27,11 +25,11 @@ use Rattle.main_lane.specs.declared.context.Context.{Context}
 use Rattle.main_lane.specs.declared.lane.MainLane.{MainLane}
 use Rattle.main_lane.specs.declared.lane.PlainJob.{PlainJob}
 use Rattle.main_lane.specs.declared.lane.Underway.{Underway}
-use Rattle.main_lane.specs.Reads.{AreTold, ArePlaces}
+use Rattle.main_lane.specs.Reads.{ArePlaces}
 use Rattle.main_lane.specs.Marks.{passed_number, IsLast, IsLastOf, IsMark, AreMarks}
 use Rattle.main_lane.specs.Contexts.{IsContext, HasAdvanced, IsEmptyContext}
 use Rattle.main_lane.specs.Judging.{IsMarkAt, are_same, has_mark, stored_mark, swept_marks}
-use Rattle.main_lane.specs.Tracks.{Tracks, EndsOver, IsUnderway, AreUnderway, IsOut, HasFinished}
+use Rattle.main_lane.specs.Tracks.{Tracks, EndsOver, IsUnderway, IsOut, HasFinished}
 use Rattle.main_lane.proofs.Holding.{Holds, holds_of, tracks_from}
 use Rattle.main_lane.proofs.Judged.{marked}
 use Rattle.main_lane.proofs.Next.{stands-at}

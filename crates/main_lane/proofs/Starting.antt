@@ -1,11 +1,10 @@
 -- After the start of an evaluation.
 use Rattle.std.proofs.Common.{◌≡◌, ℕ, ◌+◌, ◌==◌, ◌&&◌, not, true, false, cond, List, [], ◌∷◌, ◌++◌, map, length, Option, Some, None, refl, sym, ap, subst, ◌∙◌, length-append, zero, suc}
-use Rattle.std.specs.Prelude.{option_map, slice_get, slice_set, find, unwrap_or, nat_eq}
+use Rattle.std.specs.Prelude.{option_map, slice_get, slice_set, unwrap_or, nat_eq}
 use Rattle.std.specs.Cmp.Lexicographic.{pointwise}
 use Rattle.std.specs.List.{AllByRecursion}
 use Rattle.std.proofs.lemmas.List.{map-append}
 use Rattle.std.proofs.Math.Seq.{set-append_seam}
-use Rattle.ex_model.specs.declared.bindings.Binding.{Binding}
 use Rattle.ex_model.specs.Along.{After}
 use Rattle.notebook.specs.declared.parts.Cell.{Cell}
 use Rattle.notebook.specs.declared.parts.Parts.{Parts}
@@ -26,12 +25,11 @@ use Rattle.main_lane.specs.Reads.{passed_read, has_source, IsTold, AreTold, IsRe
 use Rattle.main_lane.specs.Marks.{passed_number, IsLastOf, IsMark, AreMarks}
 use Rattle.main_lane.specs.Contexts.{IsContext}
 use Rattle.main_lane.specs.Judging.{begun_mark, path_before}
-use Rattle.main_lane.specs.Tracks.{Tracks, EndsOver, IsUnderway, AreUnderway, IsAlong, IsOut, once_begun, HasStarted}
+use Rattle.main_lane.specs.Tracks.{Tracks, EndsOver, IsUnderway, IsAlong, IsOut, once_begun, HasStarted}
 use Rattle.main_lane.proofs.Holding.{Holds, IsOfLane, IsHopeful, holds_of, hope_of, tracks_from}
 use Rattle.main_lane.proofs.Sweeping.{is_in-filter, unswept, all-filter}
 use Rattle.main_lane.proofs.Queueing.{SameBut, marks-replaced, all-more}
 use Rattle.main_lane.proofs.Calls.{MarksCut}
-use Rattle.main_lane.proofs.Running.{none-runs}
 use Rattle.main_lane.proofs.Ready.{Ready, text-self}
 use Rattle.main_lane.proofs.Small.{and-true, and-false, equal-self}
 

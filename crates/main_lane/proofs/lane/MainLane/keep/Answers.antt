@@ -4,7 +4,6 @@ use Rattle.std.specs.Vec.{with_item, with_items}
 use Rattle.std.proofs.lemmas.List.{with_items_is}
 use Rattle.main_lane.specs.declared.marks.Last.{Last}
 use Rattle.main_lane.specs.declared.lane.MainLane.{MainLane}
-use Rattle.main_lane.specs.declared.lane.Underway.{Underway}
 use Rattle.main_lane.specs.Contexts.{HasAdvanced, IsEmptyContext}
 use Rattle.main_lane.specs.Judging.{IsMarkAt, are_same, has_mark, swept_marks, stored_mark}
 use Rattle.main_lane.proofs.Writing.{length-swept}

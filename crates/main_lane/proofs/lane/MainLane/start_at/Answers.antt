@@ -1,4 +1,4 @@
-use Rattle.std.proofs.Common.{◌≡◌, ◌++◌, ◌∷◌, [], Some, length, map, sym, ◌∙◌, ap, subst, refl, true}
+use Rattle.std.proofs.Common.{◌≡◌, ◌++◌, ◌∷◌, [], length, map, sym, ◌∙◌, ap, subst, refl, true}
 use Rattle.std.specs.Prelude.{slice_set}
 use Rattle.std.proofs.lemmas.Result.{err_from_is_err_and}
 use Rattle.ex_model.specs.Along.{After}
@@ -8,7 +8,7 @@ use Rattle.main_lane.specs.declared.reads.Read.{Read}
 use Rattle.main_lane.specs.declared.lane.Underway.{Underway}
 use Rattle.main_lane.specs.Reads.{ArePlaces}
 use Rattle.main_lane.specs.Contexts.{IsContext}
-use Rattle.main_lane.specs.Judging.{path_before, begun_mark}
+use Rattle.main_lane.specs.Judging.{path_before}
 use Rattle.main_lane.proofs.Calls.{tracks-rest}
 use Rattle.main_lane.proofs.Ready.{Ready, ready, ready-mark}
 use Rattle.main_lane.proofs.Starting.{started-lane, moved-lane}
