@@ -5,17 +5,18 @@ use Rattle.std.specs.List.{flat_map, AllByRecursion}
 use Rattle.std.specs.Cmp.Lexicographic.{pointwise}
 use Rattle.std.proofs.lemmas.List.{length-map}
 use Rattle.std.proofs.lemmas.Option.{slice_get-map}
+use Rattle.ex_model.specs.declared.bindings.Binding.{Binding}
 use Rattle.notebook.specs.declared.parts.Cell.{Cell}
 use Rattle.notebook.specs.declared.parts.Section.{Section}
 use Rattle.notebook.specs.declared.parts.Parts.{Parts}
 use Rattle.notebook.specs.declared.states.Lane.TheVariants.{Main}
 use Rattle.notebook.specs.Book.{cells, found, resourced, resourced_cell, resourced_cells, resourced_sections, source_for, with_source}
 use Rattle.notebook.specs.Rules.{cell_number, AreDistinct}
-use Rattle.notebook.specs.Flow.{Passed, passed, lane_cells, section_code, is_code, is_cell, HasNoParent, IsUnbranched}
+use Rattle.notebook.specs.Flow.{Passed, passed, path, up_to, lane_of, lane_cells, section_code, is_code, is_cell, HasNoParent, IsUnbranched}
 use Rattle.notebook.specs.Validity.{same_passed, same_path}
 use Rattle.notebook.proofs.Sources.{resourced_cells-append, found-resourced, live_numbers-resourced, source_for-other, with_source-none}
-use Rattle.session_ops.specs.Work.{Work, Finished, last_finished, swept}
-use Rattle.session_ops.proofs.MainFlow.{has_number, IsFoundIn, main-found, main-line, in-lane, lane-in}
+use Rattle.session_ops.specs.Work.{Work, Running, Finished, last_finished, swept}
+use Rattle.session_ops.proofs.MainFlow.{has_number, IsFoundIn, main-found, main-line, in-lane, lane-in, lane-out, path-of, path-none}
 use Rattle.main_lane.specs.declared.reads.Read.{Read}
 use Rattle.main_lane.specs.declared.marks.Last.{Last}
 use Rattle.main_lane.specs.declared.marks.Mark.{Mark}
@@ -24,7 +25,8 @@ use Rattle.main_lane.specs.declared.lane.MainLane.{MainLane}
 use Rattle.main_lane.specs.Reads.{passed_read, has_source, IsTold, AreTold, ArePlaces}
 use Rattle.main_lane.specs.Marks.{passed_number, IsLastOf, IsMark, AreMarks}
 use Rattle.main_lane.specs.Judging.{reread, reread_all, is_same_read, are_same, refreshed_last, refreshed, refreshed_all, swept_marks}
-use Rattle.main_lane.specs.Tracks.{Tracks}
+use Rattle.main_lane.specs.declared.lane.Underway.{Underway}
+use Rattle.main_lane.specs.Tracks.{Tracks, AreUnderway}
 use Rattle.main_lane.proofs.Holding.{Holds, IsOfLane, holds_of, hope_of, tracks_from}
 use Rattle.main_lane.proofs.Sweeping.{holds-swept, swept-hopeful, holds-unswept, unswept}
 use Rattle.main_lane.proofs.Queueing.{all-more}
@@ -191,7 +193,6 @@ holds-edited n cell t d w rs ms x here h =
     record {
       unbranched = unbranched;
       distinct = distinct;
-      rests = h.rests;
       lane = lanes-resourced f n w.queued h.unbranched h.lane;
       started = h.started ∙ sym (length-map rs (reread cell d.source));
       told = told;
@@ -201,17 +202,57 @@ holds-edited n cell t d w rs ms x here h =
       after = (h.after.0, places-reread cell d.source rs x.path.items h.after.0 h.after.1, h.after.2);
     }
 
+-- the cells of the running evaluation's path are those of its cell's present path still
+up_to-numbers : (f : Cell → List ℕ) (id : ℕ) (cs : List Cell) → map passed_number (map passed (up_to (is_cell id) (resourced_cells f cs))) ≡ map passed_number (map passed (up_to (is_cell id) cs))
+up_to-numbers f id [] = refl
+up_to-numbers f id (c ∷ cs) =
+    elim (is_cell id c)
+    as (λ b. map passed_number (map passed (if b then resourced_cell f c ∷ [] else resourced_cell f c ∷ up_to (is_cell id) (resourced_cells f cs))) ≡ map passed_number (map passed (if b then c ∷ [] else c ∷ up_to (is_cell id) cs)))
+    [ true ↦ refl | false ↦ ap (λ ks. c.id ∷ ks) (up_to-numbers f id cs) ]
+
+path-numbers : (f : Cell → List ℕ) (n : Parts) (id : ℕ) → IsUnbranched n → option_map (map passed_number) (path (resourced f n) id) ≡ option_map (map passed_number) (path n id)
+path-numbers f n id h =
+    elim (has_number id (lane_cells n Main))
+    as (λ b. has_number id (lane_cells n Main) ≡ b → option_map (map passed_number) (path (resourced f n) id) ≡ option_map (map passed_number) (path n id)) [
+      | true ↦ λ e.
+          let here : lane_of n id ≡ Some Main = lane-in n h id e in
+          ap (option_map (map passed_number)) (path-of (resourced f n) id (lane-resourced f n id h here))
+          ∙ (ap (λ cs. Some (map passed_number (map passed (up_to (is_cell id) cs)))) (main-resourced f n h)
+          ∙ (ap (λ ks. Some ks) (up_to-numbers f id (lane_cells n Main)) ∙ sym (ap (option_map (map passed_number)) (path-of n id here))))
+      | false ↦ λ e.
+          let gone : has_number id (lane_cells (resourced f n) Main) ≡ false = ap (has_number id) (main-resourced f n h) ∙ (number-resourced f id (lane_cells n Main) ∙ e) in
+          ap (option_map (map passed_number)) (path-none (resourced f n) id (lane-out (resourced f n) (unbranched-resourced f n h) id gone))
+          ∙ sym (ap (option_map (map passed_number)) (path-none n id (lane-out n h id e)))
+    ]
+    refl
+
+underway-edited : (n : Parts) (cell : ℕ) (t source : List ℕ) (s : ℕ) (rs : List Read) (bs : List Binding) (o : Option Underway) (running : List Running) → IsUnbranched n → AreUnderway n s rs bs o running → AreUnderway (with_source cell t n) s (reread_all cell source rs) bs o running
+underway-edited n cell t source s rs bs None [] u h = tt
+underway-edited n cell t source s rs bs None (r ∷ more) u h = absurd h
+underway-edited n cell t source s rs bs (Some k) [] u h = absurd h
+underway-edited n cell t source s rs bs (Some k) (r ∷ []) u h = record {
+  lane = h.lane;
+  eval = h.eval;
+  cell = h.cell;
+  places = places-reread cell source rs k.path.items r.path h.places;
+  numbers = path-numbers (source_for cell t) n r.cell u ∙ h.numbers;
+  over = h.over;
+}
+underway-edited n cell t source s rs bs (Some k) (r ∷ (x ∷ more)) u h = absurd h
+
 pub tracks-edited : (n book : Parts) (cell : ℕ) (t : List ℕ) (d : Cell) (w : Work) (old new : MainLane) → Tracks n w old → book ≡ with_source cell t n → found cell (cells book) ≡ Some d
-    → new.reads.items ≡ reread_all cell d.source old.reads.items → new.marks.items ≡ swept_marks false (refreshed_all new.reads.items old.marks.items) → new.context ≡ old.context → Tracks book (swept book w) new
-tracks-edited n book cell t d w old new tr same here reads marks context =
+    → new.reads.items ≡ reread_all cell d.source old.reads.items → new.marks.items ≡ swept_marks false (refreshed_all new.reads.items old.marks.items) → new.context ≡ old.context → new.running ≡ old.running → Tracks book (swept book w) new
+tracks-edited n book cell t d w old new tr same here reads marks context runs =
     let there : found cell (cells (with_source cell t n)) ≡ Some d = ap (λ b. found cell (cells b)) (sym same) ∙ here in
     let held : Holds (with_source cell t n) w (reread_all cell d.source old.reads.items) (refreshed_all (reread_all cell d.source old.reads.items) old.marks.items) old.context =
     holds-edited n cell t d w old.reads.items old.marks.items old.context there (holds_of n w old tr) in
     let swept_held : Holds (with_source cell t n) (swept (with_source cell t n) w) (reread_all cell d.source old.reads.items) (swept_marks false (refreshed_all (reread_all cell d.source old.reads.items) old.marks.items)) old.context =
     holds-swept (with_source cell t n) w (reread_all cell d.source old.reads.items) (refreshed_all (reread_all cell d.source old.reads.items) old.marks.items) old.context held in
     let as_new : new.marks.items ≡ swept_marks false (refreshed_all (reread_all cell d.source old.reads.items) old.marks.items) = marks ∙ ap (λ rs. swept_marks false (refreshed_all rs old.marks.items)) reads in
+    let going : AreUnderway (with_source cell t n) w.started (reread_all cell d.source old.reads.items) old.context.bindings old.running w.running =
+    underway-edited n cell t d.source w.started old.reads.items old.context.bindings old.running w.running tr.unbranched tr.running in
     let tracks : Tracks (with_source cell t n) (swept (with_source cell t n) w) new =
-    tracks_from (with_source cell t n) (swept (with_source cell t n) w) new (rw (reads, as_new, context) swept_held) (swept-hopeful (with_source cell t n) w) in
+    tracks_from (with_source cell t n) (swept (with_source cell t n) w) new (rw (reads, as_new, context) swept_held) (rw (reads, context, runs) going) (swept-hopeful (with_source cell t n) w) in
     subst (λ (b : Parts). Tracks b (swept b w) new) (sym same) tracks
 
 -- where no flag changed, the marks are as they were
@@ -232,13 +273,13 @@ marks-own n w rs front (c ∷ cs) (m ∷ ms) told before live h =
     ∙ ap (λ xs. m ∷ xs) (marks-own n w rs (front ++ c ∷ []) cs ms told next live.1 h.1)
 
 pub tracks-unchanged : (n book : Parts) (cell : ℕ) (t : List ℕ) (d : Cell) (w : Work) (old new : MainLane) → Tracks n w old → book ≡ with_source cell t n → found cell (cells book) ≡ Some d
-    → new.reads.items ≡ reread_all cell d.source old.reads.items → new.reads.items ≡ old.reads.items → new.marks.items ≡ old.marks.items → new.context ≡ old.context → Tracks book (swept book w) new
-tracks-unchanged n book cell t d w old new tr same here reads own marks context =
+    → new.reads.items ≡ reread_all cell d.source old.reads.items → new.reads.items ≡ old.reads.items → new.marks.items ≡ old.marks.items → new.context ≡ old.context → new.running ≡ old.running → Tracks book (swept book w) new
+tracks-unchanged n book cell t d w old new tr same here reads own marks context runs =
     let still : refreshed_all old.reads.items old.marks.items ≡ old.marks.items =
     marks-own n w old.reads.items [] (lane_cells n Main) old.marks.items tr.told tt (main-found n tr.unbranched tr.distinct) tr.marks in
     let clean : swept_marks false old.marks.items ≡ old.marks.items = holds-unswept n w old.reads.items old.marks.items old.context (holds_of n w old tr) (hope_of n w old tr) in
     tracks-edited n book cell t d w old new tr same here reads
-    (marks ∙ sym (ap (λ rs. swept_marks false (refreshed_all rs old.marks.items)) own ∙ (ap (swept_marks false) still ∙ clean))) context
+    (marks ∙ sym (ap (λ rs. swept_marks false (refreshed_all rs old.marks.items)) own ∙ (ap (swept_marks false) still ∙ clean))) context runs
 
 -- where no live cell has the number, nothing is another
 none-before : (f : Cell → Cell) (o : Option Cell) → option_map f o ≡ None → o ≡ None

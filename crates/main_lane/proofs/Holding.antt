@@ -14,7 +14,7 @@ use Rattle.main_lane.specs.declared.lane.MainLane.{MainLane}
 use Rattle.main_lane.specs.Reads.{AreTold}
 use Rattle.main_lane.specs.Marks.{AreMarks}
 use Rattle.main_lane.specs.Contexts.{IsContext}
-use Rattle.main_lane.specs.Tracks.{Tracks, IsHopefulOne}
+use Rattle.main_lane.specs.Tracks.{Tracks, IsHopefulOne, AreUnderway}
 
 -- a number is that of a cell of the main lane
 abbrev pub IsOfLane : Parts → ℕ → Type 0
@@ -28,7 +28,6 @@ IsHopeful n w cell = failed_ancestor n w cell ≡ None
 pub record Holds (n : Parts) (w : Work) (reads : List Read) (marks : List Mark) (context : Context) : Type 0 where
   pub unbranched : IsUnbranched n
   pub distinct : AreDistinct (map cell_number (cells n))
-  pub rests : w.running ≡ []
   pub lane : AllByRecursion (IsOfLane n) w.queued
   pub started : w.started ≡ length reads
   pub told : AreTold n reads
@@ -51,7 +50,6 @@ pub holds_of : (n : Parts) (w : Work) (l : MainLane) → Tracks n w l → Holds 
 holds_of n w l t = record {
   unbranched = t.unbranched;
   distinct = t.distinct;
-  rests = t.rests;
   lane = all-lane n w w.queued t.hopeful;
   started = t.started;
   told = t.told;
@@ -62,14 +60,14 @@ holds_of n w l t = record {
 pub hope_of : (n : Parts) (w : Work) (l : MainLane) → Tracks n w l → AllByRecursion (IsHopeful n w) w.queued
 hope_of n w l t = all-hope n w w.queued t.hopeful
 
-pub tracks_from : (n : Parts) (w : Work) (l : MainLane) → Holds n w l.reads.items l.marks.items l.context → AllByRecursion (IsHopeful n w) w.queued → Tracks n w l
-tracks_from n w l h hope = record {
+pub tracks_from : (n : Parts) (w : Work) (l : MainLane) → Holds n w l.reads.items l.marks.items l.context → AreUnderway n w.started l.reads.items l.context.bindings l.running w.running → AllByRecursion (IsHopeful n w) w.queued → Tracks n w l
+tracks_from n w l h running hope = record {
   unbranched = h.unbranched;
   distinct = h.distinct;
-  rests = h.rests;
   hopeful = both n w w.queued h.lane hope;
   started = h.started;
   told = h.told;
   marks = h.kept;
   context = h.after;
+  running = running;
 }

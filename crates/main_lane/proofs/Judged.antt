@@ -20,7 +20,6 @@ use Rattle.main_lane.specs.Marks.{IsLastOf, IsMark, AreMarks}
 use Rattle.main_lane.specs.Judging.{is_current, ends_in_fault, is_evaluated_mark, is_failed_mark, validity_of_last, validity_of_mark, shown_of_last, any_queued, has_mark, failed_until, failed_before}
 use Rattle.main_lane.specs.Tracks.{shown_in}
 use Rattle.main_lane.proofs.Holding.{IsOfLane}
-use Rattle.main_lane.proofs.Small.{and-true}
 
 -- what a kept evaluation tells
 last-validity : (rs : List Read) (present : List Passed) (l : Option Last) (f : Option Finished) → IsLastOf rs present l f → validity_of_last l ≡ validity_by_path (option_map path_read f) present
@@ -161,6 +160,5 @@ queue-empty n w (q ∷ qs) ms e h l j =
     let some : any_queued ms ≡ true = queued-marked n w q (lane_cells n Main) ms j (ap (is_in q) e ∙ is_in-first q qs) (in-lane n h q l.0) in
     ap not some ∙ sym (grind (arith, nat_tests))
 
-pub idle : (n : Parts) (w : Work) (ms : List Mark) → w.running ≡ [] → IsUnbranched n → AllByRecursion (IsOfLane n) w.queued → AreJudged n w (lane_cells n Main) ms → not (any_queued ms) ≡ is_idle w
-idle n w ms rests h l j =
-    queue-empty n w w.queued ms refl h l j ∙ sym (ap (λ rs. (length w.queued == 0) && (length rs == 0)) rests ∙ and-true (length w.queued == 0))
+pub idle : (n : Parts) (w : Work) (ms : List Mark) (rests : Bool) → rests ≡ (length w.running == 0) → IsUnbranched n → AllByRecursion (IsOfLane n) w.queued → AreJudged n w (lane_cells n Main) ms → (not (any_queued ms) && rests) ≡ is_idle w
+idle n w ms rests e h l j = ap (λ b. not (any_queued ms) && b) e ∙ ap (λ b. b && (length w.running == 0)) (queue-empty n w w.queued ms refl h l j)

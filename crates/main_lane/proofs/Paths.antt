@@ -12,7 +12,7 @@ use Rattle.ex_model.proofs.Once.{one_meaning, one_after}
 use Rattle.ex_source.proofs.Readings.{one_reading}
 
 -- lists that end by one element
-snoc-cut : {X : Type 0} (xs ys : List X) (x y : X) → xs ++ x ∷ [] ≡ ys ++ y ∷ [] → (xs ≡ ys) × (x ≡ y)
+pub snoc-cut : {X : Type 0} (xs ys : List X) (x y : X) → xs ++ x ∷ [] ≡ ys ++ y ∷ [] → (xs ≡ ys) × (x ≡ y)
 snoc-cut [] [] x y e = (refl, cc e)
 snoc-cut [] (z ∷ []) x y e = absurd (cc e)
 snoc-cut [] (z ∷ (v ∷ ys)) x y e = absurd (cc e)

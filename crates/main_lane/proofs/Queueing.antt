@@ -103,7 +103,6 @@ holds-queued n w rs front m back x cell h l same =
     record {
       unbranched = h.unbranched;
       distinct = h.distinct;
-      rests = h.rests;
       lane = all-with (IsOfLane n) cell w.queued h.lane l;
       started = h.started;
       told = h.told;
@@ -117,8 +116,8 @@ set-here ms cell at p y =
     ap (λ xs. slice_set xs at y) p.parts ∙ (ap (λ k. slice_set (p.front ++ p.mark ∷ p.back) k y) p.place ∙ set-append_seam p.front p.mark p.back y)
 
 pub tracks-queued : (n : Parts) (w : Work) (old new : MainLane) (cell at : ℕ) (m : Mark) → Tracks n w old → lane_of n cell ≡ Some Main → failed_ancestor n w cell ≡ None → IsMarkAt old.marks.items cell at → m ≡ get_or old.marks.items at m
-    → new.reads.items ≡ old.reads.items → new.marks.items ≡ slice_set old.marks.items at (record m { queued = true }) → new.context ≡ old.context → Tracks n (swept n (with_queued cell w)) new
-tracks-queued n w old new cell at m t l hope p is reads marks context =
+    → new.reads.items ≡ old.reads.items → new.marks.items ≡ slice_set old.marks.items at (record m { queued = true }) → new.context ≡ old.context → new.running ≡ old.running → Tracks n (swept n (with_queued cell w)) new
+tracks-queued n w old new cell at m t l hope p is reads marks context runs =
     let here : m ≡ p.mark = mark-here old.marks.items cell at m p is in
     let hopeful : AllByRecursion (IsHopeful n (with_queued cell w)) (with_number cell w.queued) = all-with (IsHopeful n w) cell w.queued (hope_of n w old t) hope in
     let old_holds : Holds n w old.reads.items (p.front ++ p.mark ∷ p.back) old.context = subst (λ ms. Holds n w old.reads.items ms old.context) p.parts (holds_of n w old t) in
@@ -126,7 +125,7 @@ tracks-queued n w old new cell at m t l hope p is reads marks context =
     holds-queued n w old.reads.items p.front p.mark p.back old.context cell old_holds l p.number in
     let written : new.marks.items ≡ p.front ++ record p.mark { queued = true } ∷ p.back =
     marks ∙ (ap (λ (x : Mark). slice_set old.marks.items at (record x { queued = true })) here ∙ set-here old.marks.items cell at p (record p.mark { queued = true })) in
-    let tracks : Tracks n (with_queued cell w) new = tracks_from n (with_queued cell w) new (rw (reads, written, context) held) hopeful in
+    let tracks : Tracks n (with_queued cell w) new = tracks_from n (with_queued cell w) new (rw (reads, written, context) held) (rw (reads, context, runs) t.running) hopeful in
     subst (λ v. Tracks n v new) (sym (unswept n (with_queued cell w) hopeful)) tracks
 
 -- a cell of the lane has a mark
@@ -149,11 +148,10 @@ distinct-live n is =
     let numbers : AreDistinct (n.setup.id ∷ map cell_number (section_cells n ++ n.bin)) = rw is.setup_number is.cell_numbers in
     distinct-left (cells n) n.bin numbers
 
-pub tracks-new : (n : Parts) (l : MainLane) → IsNotebook n → IsUnbranched n → l.reads.items ≡ [] → l.marks.items ≡ new_marks (main_line n) → l.context.path.items ≡ [] → l.context.bindings ≡ [] → Tracks n no_work l
-tracks-new n l rules h reads written path bindings = record {
+pub tracks-new : (n : Parts) (l : MainLane) → IsNotebook n → IsUnbranched n → l.reads.items ≡ [] → l.marks.items ≡ new_marks (main_line n) → l.context.path.items ≡ [] → l.context.bindings ≡ [] → l.running ≡ None → Tracks n no_work l
+tracks-new n l rules h reads written path bindings none = record {
   unbranched = h;
   distinct = distinct-live n rules;
-  rests = refl;
   hopeful = tt;
   started = sym (ap length reads);
   told = rw reads tt;
@@ -161,4 +159,5 @@ tracks-new n l rules h reads written path bindings = record {
       subst (λ ms. AreMarks no_work l.reads.items [] (lane_cells n Main) ms) (sym written)
       (subst (λ cs. AreMarks no_work l.reads.items [] (lane_cells n Main) (new_marks cs)) (main-line n h) (marks-new l.reads.items [] (lane_cells n Main)));
   context = ([], subst (λ is. ArePlaces l.reads.items is []) (sym path) tt, subst (After []) (sym bindings) at_start);
+  running = rw none tt;
 }

@@ -154,8 +154,8 @@ pub record Ready (n : Parts) (w : Work) (l : MainLane) (at : ℕ) (c : Cell) : T
   pub places : ArePlaces l.reads.items (path_before l.marks.items at) (map passed before)
   pub has : HasAfter (map passed before)
 
-ready-cut : (n : Parts) (w : Work) (l : MainLane) (at : ℕ) (p : IsWantedAt l.marks.items at) (cut : MarksCut w l.reads.items [] (lane_cells n Main) p.front p.mark p.back) → Tracks n w l → any_queued l.marks.items ≡ true → Ready n w l at cut.cell
-ready-cut n w l at p cut tr some =
+ready-cut : (n : Parts) (w : Work) (l : MainLane) (at : ℕ) (p : IsWantedAt l.marks.items at) (cut : MarksCut w l.reads.items [] (lane_cells n Main) p.front p.mark p.back) → Tracks n w l → w.running ≡ [] → any_queued l.marks.items ≡ true → Ready n w l at cut.cell
+ready-cut n w l at p cut tr rest_of some =
     let all : AllStand n [] (cut.before ++ cut.cell ∷ cut.after) = subst (AllStand n []) cut.parts (holds-stand n w l.reads.items l.marks.items l.context (holds_of n w l tr)) in
     let rest : AllStand n cut.before (cut.cell ∷ cut.after) = stand-back n [] cut.before (cut.cell ∷ cut.after) all in
     let t : JudgedCut n w (lane_cells n Main) p.front p.mark p.back = record {
@@ -167,7 +167,7 @@ ready-cut n w l at p cut tr some =
       here = judged n w l.reads.items cut.before cut.cell p.mark rest.0 cut.here;
       later = all-judged n w l.reads.items (cut.before ++ cut.cell ∷ []) cut.after p.back rest.1 cut.later;
     } in
-    let f : FirstWanted n w cut.before cut.cell = tracks-first n w l at p t tr some in
+    let f : FirstWanted n w cut.before cut.cell = tracks-first n w l at p t tr rest_of some in
     let sound : AllByRecursion IsSound p.front = all-sound n w cut.before p.front t.earlier p.done f.unfailed in
     let walked : ArePlaces l.reads.items (last_path [] p.front) (map passed cut.before) × HasAfter (map passed cut.before) =
     walk-places w l.reads.items [] cut.before p.front [] cut.earlier sound tt ([], at_start) in
@@ -195,22 +195,22 @@ get-seam : (front back : List Mark) (m : Mark) → slice_get (front ++ m ∷ bac
 get-seam [] back m = refl
 get-seam (x ∷ front) back m = get-seam front back m
 
-pub ready : (n : Parts) (w : Work) (l : MainLane) (at : ℕ) (c : Cell) → Tracks n w l → IsNext n l.marks.items at c → Ready n w l at c
-ready n w l at c tr ((some, p), here) =
+pub ready : (n : Parts) (w : Work) (l : MainLane) (at : ℕ) (c : Cell) → Tracks n w l → w.running ≡ [] → IsNext n l.marks.items at c → Ready n w l at c
+ready n w l at c tr rests ((some, p), here) =
     let cut : MarksCut w l.reads.items [] (lane_cells n Main) p.front p.mark p.back =
     marks-cut w l.reads.items [] (lane_cells n Main) p.front p.mark p.back (subst (AreMarks w l.reads.items [] (lane_cells n Main)) p.parts tr.marks) in
-    let r : Ready n w l at cut.cell = ready-cut n w l at p cut tr some in
+    let r : Ready n w l at cut.cell = ready-cut n w l at p cut tr rests some in
     let there : slice_get l.marks.items at ≡ Some p.mark = ap (λ ms. slice_get ms at) p.parts ∙ (ap (slice_get (p.front ++ p.mark ∷ p.back)) p.place ∙ get-seam p.front p.back p.mark) in
     let both : Some c ≡ Some cut.cell = sym here ∙ (ap (cell_of n) there ∙ (ap (λ k. found k (cells n)) cut.here.cell ∙ r.stands.live)) in
     let same : cut.cell ≡ c = cc both in
     subst (Ready n w l at) same r
 
 -- the mark at the next place has a live cell
-pub next-found : (n : Parts) (w : Work) (l : MainLane) (at : ℕ) (m : Mark) → Tracks n w l → IsPlaceOfNext l.marks.items (Some at) → m ≡ get_or l.marks.items at m → found m.cell (cells n) ≡ None → ⊥
-next-found n w l at m tr (some, p) is none =
+pub next-found : (n : Parts) (w : Work) (l : MainLane) (at : ℕ) (m : Mark) → Tracks n w l → w.running ≡ [] → IsPlaceOfNext l.marks.items (Some at) → m ≡ get_or l.marks.items at m → found m.cell (cells n) ≡ None → ⊥
+next-found n w l at m tr rests (some, p) is none =
     let cut : MarksCut w l.reads.items [] (lane_cells n Main) p.front p.mark p.back =
     marks-cut w l.reads.items [] (lane_cells n Main) p.front p.mark p.back (subst (AreMarks w l.reads.items [] (lane_cells n Main)) p.parts tr.marks) in
-    let r : Ready n w l at cut.cell = ready-cut n w l at p cut tr some in
+    let r : Ready n w l at cut.cell = ready-cut n w l at p cut tr rests some in
     let here : m ≡ p.mark = is ∙ (ap (λ ms. get_or ms at m) p.parts ∙ (ap (λ k. get_or (p.front ++ p.mark ∷ p.back) k m) p.place ∙ get_or-append_seam p.front p.mark p.back m)) in
     let live : found m.cell (cells n) ≡ Some cut.cell = ap (λ (x : Mark). found x.cell (cells n)) here ∙ (ap (λ k. found k (cells n)) cut.here.cell ∙ r.stands.live) in
     cc (none, live)

@@ -184,7 +184,6 @@ pub holds-swept : (n : Parts) (w : Work) (rs : List Read) (ms : List Mark) (x : 
 holds-swept n w rs ms x h = record {
   unbranched = h.unbranched;
   distinct = h.distinct;
-  rests = h.rests;
   lane = all-filter (IsOfLane n) (is_hopeful n w) w.queued h.lane;
   started = h.started;
   told = h.told;

@@ -1,5 +1,5 @@
 -- What a context stands for.
-use Rattle.std.specs.Prelude.{◌≡◌, ℕ, List, map}
+use Rattle.std.specs.Prelude.{◌≡◌, ℕ, List, [], map}
 use Rattle.ex_model.specs.declared.bindings.Binding.{Binding}
 use Rattle.ex_model.specs.declared.ran.Outcome.{Outcome}
 use Rattle.ex_model.specs.declared.ran.Outcome.TheVariants.{Value, Fault}
@@ -23,3 +23,7 @@ IsContext rs c = (p : List Passed) × ArePlaces rs c.path.items p × After (map 
 abbrev pub HasAdvanced : Outcome → List ℕ → List Binding → Context → Context → Type 0
 HasAdvanced (Fault f) places made old new = new ≡ old
 HasAdvanced (Value v) places made old new = (new.path.items ≡ places) × (new.bindings ≡ put_all old.bindings made)
+
+-- the context before the first cell
+abbrev pub IsEmptyContext : Context → Type 0
+IsEmptyContext c = (c.path.items ≡ []) × (c.bindings ≡ [])

@@ -11,6 +11,7 @@ use Rattle.session_ops.specs.Work.{is_fault}
 use Rattle.main_lane.specs.declared.reads.Read.{Read}
 use Rattle.main_lane.specs.declared.marks.Last.{Last}
 use Rattle.main_lane.specs.declared.marks.Mark.{Mark}
+use Rattle.main_lane.specs.declared.lane.Underway.{Underway}
 
 -- a read after its cell has a new source
 abbrev pub reread : ℕ → List ℕ → Read → Read
@@ -148,9 +149,22 @@ abbrev pub IsPlaceOfNext : List Mark → Option ℕ → Type 0
 IsPlaceOfNext ms None = (any_queued ms ≡ false) ⊎ AllByRecursion IsDone ms
 IsPlaceOfNext ms (Some at) = (any_queued ms ≡ true) × IsWantedAt ms at
 
--- a mark after an evaluation was kept
+-- while an evaluation runs there is no next place
+abbrev pub IsNextPlace : Option Underway → List Mark → Option ℕ → Type 0
+IsNextPlace None ms o = IsPlaceOfNext ms o
+IsNextPlace (Some u) ms o = o ≡ None
+
+-- whether the evaluation that runs is the cell's
+abbrev pub is_underway : ℕ → Option Underway → Bool
+is_underway cell None = false
+is_underway cell (Some u) = u.cell == cell
+
+-- a mark after its evaluation began, and after an evaluation was kept
+abbrev pub begun_mark : Mark → Mark
+begun_mark m = record m { queued = false }
+
 abbrev pub stored_mark : Last → Mark → Mark
-stored_mark l m = record { cell = m.cell; queued = false; aborted = false; last = Some l }
+stored_mark l m = record m { aborted = false; last = Some l }
 
 -- the path that the cell at a place kept
 abbrev pub path_of_last : Option Last → List ℕ

@@ -4,4 +4,3 @@ pub mod Lines
 pub mod Judging
 pub mod Contexts
 pub mod Tracks
-pub mod Handed

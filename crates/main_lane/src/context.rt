@@ -1,12 +1,12 @@
 //! The bindings after a path, kept for the next start.
-ghost use Rattle.std.specs.Prelude.{◌≡◌, List, [], IfOk, OnOk, map};
+ghost use Rattle.std.specs.Prelude.{◌≡◌, ◌⊎◌, List, [], IfOk, OnOk, OnErr, map};
 ghost use Rattle.ex_model.specs.Along.{After, MeansInCell};
 ghost use Rattle.ex_model.specs.Bound.{put_all};
 ghost use Rattle.ex_model.specs.declared.ran.Ran.{Ran};
 ghost use Rattle.notebook.specs.Flow.{Passed};
 ghost use Rattle.session_ops.specs.State.{source_bytes};
 ghost use Rattle.main_lane.specs.Reads.{ArePlaces, IsReadAt};
-ghost use Rattle.main_lane.specs.Contexts.{IsContext, HasAfter, HasAdvanced};
+ghost use Rattle.main_lane.specs.Contexts.{IsContext, HasAfter, HasAdvanced, IsEmptyContext};
 
 use crate::reads::Read;
 use ex_machine::run;
@@ -36,14 +36,15 @@ impl Context {
     }
 
     /// Makes this the context after the path at the places: it stays where it is that already, and
-    /// else the path is evaluated anew.
+    /// else the path is evaluated anew. After want of memory it is as it was.
     pub(crate) fn move_to(
         &mut self,
         alloc: Global,
         reads: &[Read],
         places: &[usize],
     ) -> Result<(), AllocError>
-        ensures { (p : List Passed) → IsContext reads.now self.old → ArePlaces reads.now places.now p → HasAfter p → OnOk result (After (map source_bytes p) self.new.bindings × IsContext reads.now self.new) }
+        ensures ok { (p : List Passed) → IsContext reads.now self.old → ArePlaces reads.now places.now p → HasAfter p → OnOk result (After (map source_bytes p) self.new.bindings × IsContext reads.now self.new) }
+        ensures err { OnErr result (self.new ≡ self.old) }
     {
         if self.path.as_slice() == places {
             return Ok(());
@@ -55,13 +56,17 @@ impl Context {
     }
 
     /// Goes on to the path at the places, whose last cell ran so over these bindings; after a fault
-    /// the context stays.
-    pub(crate) fn advance(
-        &mut self,
-        alloc: Global,
-        places: &[usize],
-        ran: &Ran,
-    ) -> Result<(), AllocError>
+    /// the context stays. Where memory is wanting it is the one before the first cell again.
+    pub(crate) fn follow(&mut self, alloc: Global, places: &[usize], ran: &Ran)
+        ensures { HasAdvanced ran.now.shown.outcome places.now ran.now.made self.old self.new ⊎ IsEmptyContext self.new }
+    {
+        if self.advance(alloc, places, ran).is_err() {
+            *self = Context::new(alloc);
+        }
+    }
+
+    /// Goes on to the path at the places; after a fault the context stays.
+    fn advance(&mut self, alloc: Global, places: &[usize], ran: &Ran) -> Result<(), AllocError>
         ensures { OnOk result (HasAdvanced ran.now.shown.outcome places.now ran.now.made self.old self.new) }
     {
         match &ran.shown.outcome {

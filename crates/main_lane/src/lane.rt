@@ -1,9 +1,7 @@
 //! The main lane over a notebook without branches.
-ghost use Rattle.std.specs.Prelude.{◌≡◌, ◌<◌, ℕ, List, [], ◌∷◌, ◌++◌, None, Some, IfOk, OnOk, OnErr, false, length};
+ghost use Rattle.std.specs.Prelude.{◌≡◌, ◌<◌, ◌^◌, ℕ, List, [], ◌∷◌, ◌++◌, None, Some, IfOk, OnOk, MatchResult, length};
 ghost use Rattle.std.specs.Str.{encode_utf8_all};
 ghost use Rattle.ex_model.specs.Along.{MeansInCell};
-ghost use Rattle.main_lane.specs.Handed.{IsHandedOut};
-ghost use Rattle.main_lane.specs.declared.lane.PlainJob.{PlainJob};
 ghost use Rattle.notebook.specs.declared.parts.Parts.{Parts};
 ghost use Rattle.notebook.specs.declared.states.Lane.TheVariants.{Main};
 ghost use Rattle.notebook.specs.Book.{with_source};
@@ -11,41 +9,41 @@ ghost use Rattle.notebook.specs.Flow.{lane_of, IsUnbranched, code_cells};
 ghost use Rattle.std.specs.Option.{option_copied};
 ghost use Rattle.notebook.specs.Validity.{status_by};
 ghost use Rattle.session_ops.specs.Work.{Work, no_work, with_number, failed_ancestor, may_start, swept, is_idle};
-ghost use Rattle.main_lane.specs.Tracks.{Tracks, HasTried, HasEvaluated, HasTriedStart, HasFinished, IsRow, IsNext};
-ghost use Rattle.main_lane.specs.Judging.{new_marks, IsPlaceOfNext, validity_of_mark, shown_of_last};
+ghost use Rattle.main_lane.specs.Tracks.{Tracks, HasTried, HasStarted, HasFinished, IsOut, IsRow, IsNext};
+ghost use Rattle.main_lane.specs.Judging.{new_marks, IsPlaceOfNext, IsNextPlace, is_underway, validity_of_mark, shown_of_last};
 ghost use Rattle.main_lane.specs.Lines.{main_line};
 
-use crate::context::{Context, STEPS};
+use crate::context::Context;
 use crate::marks::{
     Last, Mark, any_queued, failed_before, first_wanted, path_before, place_of, refresh_all,
     sweep_all,
 };
-use crate::reads::{Read, compare_all};
-use ex_machine::run;
+use crate::reads::{Read, are_same, compare_all};
 use ex_model::{Bindings, Ran, Shown};
 use notebook::{Cell, CellId, Kind, Notebook, Parts, Status, Validity};
-use utf16_text::Text;
 use std::alloc::{AllocError, Global};
+use utf16_text::Text;
 
 /// The cells of the main lane with what is asked and known of each, the reads of all evaluations that
-/// were started, and the bindings after one path.
+/// were started, the one that runs, and the bindings after one path.
 #[derive(Drop)]
 pub struct MainLane {
     pub(crate) reads: Vec<Read>,
     pub(crate) marks: Vec<Mark>,
     pub(crate) context: Context,
+    pub(crate) running: Option<Underway>,
 }
 
-/// An evaluation that is done: its number, counted from 1, its cell, and what it showed.
-#[derive(Debug, Drop)]
-pub struct Evaluated {
-    pub eval: u64,
-    pub cell: CellId,
-    pub shown: Shown,
+/// The evaluation that runs. Its number is that of the reads.
+#[derive(Drop)]
+pub(crate) struct Underway {
+    pub(crate) cell: CellId,
+    /// The places of the reads of its path, one for each cell up to its own.
+    pub(crate) path: Vec<usize>,
 }
 
-/// An evaluation that was handed out: its number, counted from 1, its cell, the source to evaluate, and
-/// the bindings over which it is to be evaluated.
+/// An evaluation that is handed out: its number, counted from 1, its cell, the source that the cell
+/// had at the start, and the bindings over which that is to run.
 #[derive(Debug, Drop)]
 pub struct PlainJob {
     pub eval: u64,
@@ -75,6 +73,7 @@ impl MainLane {
             reads: Vec::new(alloc),
             marks,
             context: Context::new(alloc),
+            running: None,
         })
     }
 
@@ -108,14 +107,23 @@ impl MainLane {
         }
     }
 
-    /// Whether no cell is queued. Takes no memory.
+    /// Whether no cell is queued and no evaluation runs. Takes no memory.
     pub fn is_idle(&self) -> bool
         ensures { (n : Parts) (w : Work) → Tracks n w self.now → result ≡ is_idle w }
     {
-        !any_queued(&self.marks)
+        !any_queued(&self.marks) && self.running.is_none()
     }
 
-    /// The cell that may be evaluated next. `None` exactly where no cell may. Takes no memory.
+    /// How many evaluations were started, which is the number of the last one. Takes no memory.
+    pub fn started(&self) -> u64
+        ensures count { (n : Parts) (w : Work) → Tracks n w self.now → result ≡ w.started }
+        ensures bound { result < 2 ^ 63 }
+    {
+        self.reads.len() as u64
+    }
+
+    /// The cell that may be evaluated next. `None` exactly where no cell may, as while one runs. Takes
+    /// no memory.
     pub fn next(&self) -> Option<CellId>
         ensures { (n : Parts) (w : Work) → Tracks n w self.now → result ≡ may_start n w Main }
     {
@@ -127,90 +135,86 @@ impl MainLane {
 
     /// The place of the cell that may be evaluated next.
     fn next_place(&self) -> Option<usize>
-        ensures { IsPlaceOfNext self.now.marks.items result }
+        ensures { IsNextPlace self.now.running self.now.marks.items result }
     {
-        if !any_queued(&self.marks) {
-            return None;
+        match &self.running {
+            Some(_) => None,
+            None => wanted_place(&self.marks),
         }
-        first_wanted(&self.marks)
     }
 
-    /// How many evaluations were started. Takes no memory.
-    pub fn started(&self) -> u64
-        ensures { (n : Parts) (w : Work) → Tracks n w self.now → result ≡ w.started }
-    {
-        self.reads.len() as u64
-    }
-
-    /// Hands out the evaluation of the cell that may be evaluated next. `None` exactly where no cell may.
-    /// After want of memory nothing has changed.
+    /// Starts the evaluation of the cell that may be evaluated next, and hands it out: it runs until
+    /// [`finish`](MainLane::finish), and its cell isn't queued any more. `None` exactly where no cell may
+    /// start, and then nothing is changed. After want of memory the lane stands for what it stood for.
     pub fn start(&mut self, alloc: Global, book: &Notebook) -> Result<Option<PlainJob>, AllocError>
-        ensures ok { (w : Work) → Tracks book.now w self.old → IfOk result (HasTriedStart book.now w self.new) }
-        ensures err { (w : Work) → Tracks book.now w self.old → OnErr result (Tracks book.now w self.new) }
-    {
-        Err(AllocError)
-    }
-
-    /// Keeps the answer of the evaluation that was handed out. Never refuses.
-    pub fn finish(&mut self, alloc: Global, ran: Ran)
-        ensures { (n : Parts) (w : Work) (job : PlainJob) → Tracks n w self.old → IsHandedOut self.old job → MeansInCell (encode_utf8_all job.source) job.base ran → HasFinished n w job ran self.new }
-    {
-    }
-
-    /// Evaluates the cell that may be evaluated next over the bindings after the cells before it, and
-    /// keeps what it shows. `None` exactly where no cell may, and then nothing is changed. Nothing is
-    /// said of the lane after want of memory.
-    pub fn evaluate(
-        &mut self,
-        alloc: Global,
-        book: &Notebook,
-    ) -> Result<Option<Evaluated>, AllocError>
-        ensures { (w : Work) → Tracks book.now w self.old → IfOk result (HasTried book.now w self.new) }
+        ensures { (w : Work) → Tracks book.now w self.old → MatchResult result (HasTried book.now w self.new) (λ e. Tracks book.now w self.new) }
     {
         match self.next_place() {
             None => Ok(None),
             Some(at) => match book.find(self.marks[at].cell) {
                 None => Ok(None),
                 Some(cell) => {
-                    let evaluated = self.evaluate_at(alloc, at, cell)?;
-                    Ok(Some(evaluated))
+                    let job = self.start_at(alloc, at, cell)?;
+                    Ok(Some(job))
                 }
             },
         }
     }
 
-    /// Evaluates the cell at a place, the first that is wanted.
-    fn evaluate_at(
-        &mut self,
-        alloc: Global,
-        at: usize,
-        cell: &Cell,
-    ) -> Result<Evaluated, AllocError>
+    /// Starts the evaluation of the cell at a place, the first that is wanted.
+    fn start_at(&mut self, alloc: Global, at: usize, cell: &Cell) -> Result<PlainJob, AllocError>
         requires { at < length self.old.marks.items }
-        ensures { (n : Parts) (w : Work) → Tracks n w self.old → IsNext n self.old.marks.items at cell.now → IfOk result (λ e. HasEvaluated n w e self.new) }
+        ensures { (n : Parts) (w : Work) → Tracks n w self.old → self.old.running ≡ None → IsNext n self.old.marks.items at cell.now → MatchResult result (λ job. HasStarted n w job self.new) (λ e. Tracks n w self.new) }
     {
+        let source = cell.source.copy()?;
+        let kept = cell.source.copy()?;
         let mut path = path_before(alloc, &self.marks, at)?;
         self.context.move_to(alloc, &self.reads, &path)?;
-        let ran = run(alloc, cell.source.as_str(), &self.context.bindings, STEPS)?;
+        let base = self.context.bindings.copy()?;
         path.push(self.reads.len())?;
         self.reads.push(Read {
             cell: cell.id,
-            source: cell.source.copy()?,
+            source: kept,
             same: true,
         })?;
-        let shown = ran.shown.copy()?;
-        self.context.advance(alloc, &path, &ran)?;
-        self.marks[at].store(Last {
+        self.marks[at].begin();
+        self.running = Some(Underway {
+            cell: cell.id,
             path,
-            shown,
-            current: true,
         });
-        sweep_all(&mut self.marks);
-        Ok(Evaluated {
+        Ok(PlainJob {
             eval: self.reads.len() as u64,
             cell: cell.id,
-            shown: ran.shown,
+            source,
+            base,
         })
+    }
+
+    /// Keeps the answer of the evaluation that runs, along the path that was read at its start. A queued
+    /// cell that then stands on one that failed isn't queued any more, and is marked aborted. Where
+    /// memory is wanting, only the bindings for the next start are lost, and made anew then.
+    pub fn finish(&mut self, alloc: Global, ran: Ran)
+        ensures { (n : Parts) (w : Work) (job : PlainJob) → Tracks n w self.old → IsOut w job → MeansInCell (encode_utf8_all job.source) job.base ran → HasFinished n w job.eval ran.shown self.new }
+    {
+        if let Some(underway) = self.running.take() {
+            self.keep(alloc, underway, ran);
+        }
+    }
+
+    /// Keeps the answer of an evaluation at its cell.
+    fn keep(&mut self, alloc: Global, underway: Underway, ran: Ran)
+        ensures { (n : Parts) (w : Work) (job : PlainJob) → self.old.running ≡ None → Tracks n w (record self.old { running = Some underway }) → IsOut w job → MeansInCell (encode_utf8_all job.source) job.base ran → HasFinished n w job.eval ran.shown self.new }
+    {
+        if let Some(at) = place_of(&self.marks, underway.cell) {
+            self.context.follow(alloc, &underway.path, &ran);
+            let current = are_same(&self.reads, &underway.path);
+            self.marks[at].store(Last {
+                path: underway.path,
+                shown: ran.shown,
+                current,
+            });
+            sweep_all(&mut self.marks);
+        }
     }
 
     /// The row of a cell of the lane; `None` for a number that no cell of the lane has. Takes no
@@ -220,25 +224,54 @@ impl MainLane {
     {
         match place_of(&self.marks, cell) {
             None => None,
-            Some(at) => Some(row_of(&self.marks[at])),
+            Some(at) => Some(row_of(&self.marks[at], self.runs(cell))),
+        }
+    }
+
+    /// Whether the evaluation that runs is the cell's.
+    fn runs(&self, cell: CellId) -> bool
+        ensures { result ≡ is_underway cell self.now.running }
+    {
+        match &self.running {
+            None => false,
+            Some(underway) => underway.cell == cell,
         }
     }
 }
 
-/// What a mark tells of its cell.
-fn row_of(mark: &Mark) -> Row<'_>
-    ensures status { result.status ≡ status_by false mark.now.queued }
+/// The place of the first wanted cell, where some cell is queued.
+fn wanted_place(marks: &[Mark]) -> Option<usize>
+    ensures { IsPlaceOfNext marks.now result }
+{
+    if !any_queued(marks) {
+        return None;
+    }
+    first_wanted(marks)
+}
+
+/// What a mark tells of its cell, which runs or not.
+fn row_of(mark: &Mark, runs: bool) -> Row<'_>
+    ensures status { result.status ≡ status_by runs mark.now.queued }
     ensures validity { result.validity ≡ validity_of_mark mark.now }
     ensures shown { option_copied result.shown ≡ shown_of_last mark.now.last }
 {
     Row {
-        status: if mark.queued {
-            Status::Queued
-        } else {
-            Status::Ready
-        },
+        status: status_of(runs, mark.queued),
         validity: mark.validity(),
         shown: mark.shown(),
+    }
+}
+
+/// What is asked for a cell, which runs or not.
+fn status_of(runs: bool, queued: bool) -> Status
+    ensures { result ≡ status_by runs queued }
+{
+    if runs {
+        Status::Evaluating
+    } else if queued {
+        Status::Queued
+    } else {
+        Status::Ready
     }
 }
 

@@ -3,7 +3,7 @@ ghost use Rattle.std.specs.Prelude.{◌≡◌, false, MatchOption, IfOk};
 ghost use Rattle.std.specs.Option.{option_copied};
 ghost use Rattle.std.specs.List.{AllByRecursion};
 ghost use Rattle.session_ops.specs.Work.{is_fault};
-ghost use Rattle.main_lane.specs.Judging.{is_evaluated_mark, is_failed_mark, is_wanted_mark, validity_of_mark, shown_of_last, new_mark, stored_mark, refreshed, refreshed_all, swept_mark, swept_marks, any_queued, has_mark, failed_until, failed_before, IsMarkAt, IsDone, IsWantedAt, path_before};
+ghost use Rattle.main_lane.specs.Judging.{is_evaluated_mark, is_failed_mark, is_wanted_mark, validity_of_mark, shown_of_last, new_mark, begun_mark, stored_mark, refreshed, refreshed_all, swept_mark, swept_marks, any_queued, has_mark, failed_until, failed_before, IsMarkAt, IsDone, IsWantedAt, path_before};
 
 use crate::reads::{Read, are_same};
 use ex_model::{Outcome, Shown};
@@ -93,11 +93,18 @@ impl Mark {
         }
     }
 
-    /// Keeps an evaluation; the cell isn't queued and isn't marked aborted any more.
+    /// Takes the cell from the queue, since its evaluation begins.
+    pub(crate) fn begin(&mut self)
+        ensures { self.new ≡ begun_mark self.old }
+    {
+        self.queued = false;
+    }
+
+    /// Keeps an evaluation; the cell isn't marked aborted any more. Where it was queued again, it stays
+    /// so.
     pub(crate) fn store(&mut self, last: Last)
         ensures { self.new ≡ stored_mark last self.old }
     {
-        self.queued = false;
         self.aborted = false;
         self.last = Some(last);
     }

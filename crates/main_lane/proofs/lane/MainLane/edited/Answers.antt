@@ -19,7 +19,7 @@ returns-then-compare_all c = λ n w t tr same.
     let refreshed_marks : c.refresh_all.new.marks ≡ refreshed_all (with_items c.args.self.now.reads c.compare_all.new.reads).items c.args.self.now.marks.items =
     c.refresh_all.ensures ∙ (ap (λ rs. refreshed_all rs c.deref_mut-then-compare_all.result.now) c.deref.ensures.value ∙ ap (refreshed_all (with_items c.args.self.now.reads c.compare_all.new.reads).items) c.deref_mut-then-compare_all.ensures.value) in
     tracks-edited n c.args.book.now c.args.cell t c.in-Some.found.now w c.args.self.now _ tr same (sym c.in-Some.ensures) (reads ∙ compared)
-    (marks ∙ (c.sweep_all.ensures ∙ ap (swept_marks false) (c.deref_mut-then-compare_all-2.ensures.value ∙ (again ∙ refreshed_marks)))) refl
+    (marks ∙ (c.sweep_all.ensures ∙ ap (swept_marks false) (c.deref_mut-then-compare_all-2.ensures.value ∙ (again ∙ refreshed_marks)))) refl refl
 
 pub returns-else-compare_all : goal.returns-else-compare_all
 returns-else-compare_all c = λ n w t tr same.
@@ -30,7 +30,7 @@ returns-else-compare_all c = λ n w t tr same.
     let none : any_changes c.args.cell c.in-Some.found.now.source c.args.self.now.reads.items ≡ false =
     ap (any_changes c.args.cell c.in-Some.found.now.source) (sym c.deref_mut.ensures.value) ∙ (sym c.compare_all.ensures.changed ∙ c.if-compare_all.false) in
     let own : reread_all c.args.cell c.in-Some.found.now.source c.args.self.now.reads.items ≡ c.args.self.now.reads.items = unchanged_all c.args.cell c.in-Some.found.now.source c.args.self.now.reads.items none in
-    tracks-unchanged n c.args.book.now c.args.cell t c.in-Some.found.now w c.args.self.now _ tr same (sym c.in-Some.ensures) (reads ∙ compared) (reads ∙ (compared ∙ own)) refl refl
+    tracks-unchanged n c.args.book.now c.args.cell t c.in-Some.found.now w c.args.self.now _ tr same (sym c.in-Some.ensures) (reads ∙ compared) (reads ∙ (compared ∙ own)) refl refl refl
 
 pub returns-in_default : goal.returns-in_default
 returns-in_default c = λ n w t tr same. tracks-nowhere n c.args.book.now c.args.cell t w c.args.self.now tr same (sym c.in_default.ensures)

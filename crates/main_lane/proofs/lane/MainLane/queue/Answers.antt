@@ -9,4 +9,4 @@ returns-in_default c = λ n w t l hope. absurd (cc (tracks-marked n w c.args.sel
 pub returns-in-Some : goal.returns-in-Some
 returns-in-Some c = λ n w t l hope.
     tracks-queued n w c.args.self.now _ c.args.cell c.in-Some.at c.index_mut.result.now t l hope
-    (subst (λ ms. IsMarkAt ms c.args.cell c.in-Some.at) c.deref.ensures.value c.in-Some.ensures) c.index_mut.ensures.value refl refl refl
+    (subst (λ ms. IsMarkAt ms c.args.cell c.in-Some.at) c.deref.ensures.value c.in-Some.ensures) c.index_mut.ensures.value refl refl refl refl
