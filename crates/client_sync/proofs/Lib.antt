@@ -1,1 +1,4 @@
 pub mod Holding
+pub mod Joining
+pub mod Places
+pub mod Viewing

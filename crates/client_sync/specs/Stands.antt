@@ -1,5 +1,5 @@
 -- What a client in memory stands for.
-use Rattle.std.specs.Prelude.{◌≡◌, ℕ, List, [], ◌∷◌, length, map, Option, Some, None}
+use Rattle.std.specs.Prelude.{◌≡◌, ℕ, List, [], ◌∷◌, ◌++◌, length, map, Option, Some, None}
 use Rattle.std.specs.Option.{option_copied}
 use Rattle.notebook.specs.declared.parts.Cell.{Cell}
 use Rattle.notebook.specs.declared.parts.Parts.{Parts}
@@ -27,6 +27,22 @@ pending_in u = record { cell = u.cell; flight = u.flight; buffer = u.buffer }
 abbrev pub pending_cell : Pending → ℕ
 pending_cell p = p.cell
 
+-- these pending edits and messages in memory are this client's
+pub record HasEdits (us : List Unconfirmed) (ops : List Op) (m : Holder) : Type 0 where
+  pub pending : map pending_in us ≡ m.pending
+  pub outbox : ops ≡ m.outbox
+  pub apart : AreDistinct (map pending_cell m.pending)
+
+-- the first of some pending edits that is of the cell stands at the place
+pub record IsPendingAt (us : List Unconfirmed) (k at : ℕ) : Type 0 where
+  pub front : List Unconfirmed
+  pub here : Unconfirmed
+  pub back : List Unconfirmed
+  pub parts : us ≡ front ++ here ∷ back
+  pub number : here.cell ≡ k
+  pub place : at ≡ length front
+  pub first : pending_of k (map pending_in front) ≡ None
+
 -- the client in memory stands for this one: its notebook is what this one holds, its revisions are those at the last delivery, and all that is pending fits there
 pub record Mirrors (n0 : Parts) (c : Client) (m : Holder) : Type 0 where
   pub number : c.number ≡ m.number
@@ -34,7 +50,7 @@ pub record Mirrors (n0 : Parts) (c : Client) (m : Holder) : Type 0 where
   pub book : c.book ≡ held n0 m
   pub revs : c.revs ≡ revisions_of (delivered n0 m) (cells (delivered n0 m).book)
   pub pending : map pending_in c.pending ≡ m.pending
-  pub outbox : c.outbox.items ≡ m.outbox
+  pub outbox : c.outbox ≡ m.outbox
   pub nothing : c.nothing ≡ []
   pub apart : AreDistinct (map pending_cell m.pending)
   pub fits : (k : ℕ) (p : Pending) → pending_of k m.pending ≡ Some p → FitsHere (delivered n0 m) k p

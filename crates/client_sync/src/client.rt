@@ -1,5 +1,5 @@
 //! A client in memory.
-ghost use Rattle.std.specs.Prelude.{◌≡◌, ℕ, ◌∷◌, [], List, IfOk, OnOk, OnErr, MatchResult, length, slice_get};
+ghost use Rattle.std.specs.Prelude.{◌≡◌, ℕ, ◌∷◌, [], List, IfOk, OnOk, OnErr, MatchResult, length, map, slice_get};
 ghost use Rattle.std.specs.Option.{option_copied};
 ghost use Rattle.notebook.specs.declared.parts.Parts.{Parts};
 ghost use Rattle.notebook.specs.Book.{cells, found};
@@ -8,16 +8,17 @@ ghost use Rattle.session_ops.specs.State.{state};
 ghost use Rattle.session_ops.specs.Snapshot.{IsSnapshot, revisions_of};
 ghost use Rattle.client_sync.specs.Client.{Client as Holder, Done, edited, held, delivered, joined_client, with_message, received_entry, pending_of};
 ghost use Rattle.client_sync.specs.Causes.{IsEditCause};
-ghost use Rattle.client_sync.specs.Stands.{Mirrors, IsPostable, IsNextEntry, HasTaken, IsPendingOf};
+ghost use Rattle.client_sync.specs.Stands.{Mirrors, IsPostable, IsNextEntry, HasTaken, IsPendingOf, IsViewOf, pending_in};
 
 use crate::edit_error::EditError;
-use crate::pending::{PendingEdits, Unconfirmed};
+use crate::outbox::Outbox;
+use crate::pending::{PendingEdits, Unconfirmed, place_of};
 use delta::Delta;
+use delta_laws::nothing;
 use notebook::{CellId, Notebook};
 use plain_list::Items;
 use session_ops::{Entry, Op, Snapshot};
 use std::alloc::{AllocError, Global};
-use std::collections::VecDeque;
 
 /// A notebook as of the client's last delivery, with the client's own unconfirmed edits done to it; and
 /// the messages that the server hasn't taken yet.
@@ -29,7 +30,7 @@ pub struct Client {
     book: Notebook,
     revs: Items<(CellId, u64)>,
     pending: Items<Unconfirmed>,
-    outbox: VecDeque<Op>,
+    outbox: Outbox,
     nothing: Delta,
 }
 
@@ -38,7 +39,17 @@ impl Client {
     pub fn join(alloc: Global, number: u32, snapshot: Snapshot) -> Result<Client, AllocError>
         ensures { (n0 : Parts) (seen : List Entry) → IsSnapshot (state n0 seen) (length seen) snapshot → IfOk result (λ c. Mirrors n0 c (joined_client number seen)) }
     {
-        Err(AllocError)
+        let Snapshot { book, revs, cursor } = snapshot;
+        Ok(Client {
+            alloc,
+            number,
+            cursor,
+            book,
+            revs,
+            pending: Items::new(alloc),
+            outbox: Outbox::new(alloc),
+            nothing: nothing(alloc),
+        })
     }
 
     /// Edits a cell of the client's own notebook, by a delta over the client's own text, in UTF-16
@@ -63,12 +74,13 @@ impl Client {
         ensures posted { (n0 : Parts) (m : Holder) → Mirrors n0 self.old m → OnOk result (Mirrors n0 self.new (with_message m op)) }
         ensures err { OnErr result (self.new ≡ self.old) }
     {
-        Err(AllocError)
+        self.outbox.push(op)?;
+        Ok(())
     }
 
     /// The message at the outbox's front; `None` exactly where the outbox is empty. Takes no memory.
     pub fn outbox_front(&self) -> Option<&Op>
-        ensures { option_copied result ≡ slice_get self.now.outbox.items 0 }
+        ensures { option_copied result ≡ slice_get self.now.outbox 0 }
     {
         self.outbox.front()
     }
@@ -85,7 +97,7 @@ impl Client {
     pub fn take_front(&mut self) -> Option<Op>
         ensures { (n0 : Parts) (m : Holder) → Mirrors n0 self.old m → HasTaken n0 m self.new result }
     {
-        self.outbox.pop_front()
+        self.outbox.take_front()
     }
 
     /// Receives the next entry of the history. A client's own delta that came back ends what was in
@@ -129,6 +141,24 @@ impl Client {
     pub fn pending(&self, cell: CellId) -> Option<PendingEdits<'_>>
         ensures { (n0 : Parts) (m : Holder) → Mirrors n0 self.now m → IsPendingOf (found cell (cells (delivered n0 m).book)) result (pending_of cell m.pending) }
     {
-        None
+        self.book.find(cell)?;
+        Some(self.pending_edits(cell))
+    }
+
+    /// What is pending for a cell, whether or not the client has it.
+    fn pending_edits(&self, cell: CellId) -> PendingEdits<'_>
+        ensures { self.now.nothing ≡ [] → IsViewOf result (pending_of cell (map pending_in self.now.pending)) }
+    {
+        let pending = self.pending.as_slice();
+        match place_of(pending, cell) {
+            None => PendingEdits {
+                inflight: None,
+                buffer: &self.nothing,
+            },
+            Some(at) => PendingEdits {
+                inflight: Some(&pending[at].flight),
+                buffer: &pending[at].buffer,
+            },
+        }
     }
 }

@@ -6,6 +6,7 @@
 
 mod client;
 mod edit_error;
+mod outbox;
 mod pending;
 
 pub use client::Client;
