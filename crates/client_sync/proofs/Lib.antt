@@ -1,4 +1,10 @@
+pub mod Books
+pub mod Editing
+pub mod Edits
+pub mod Fitting
 pub mod Holding
 pub mod Joining
+pub mod Noting
 pub mod Places
+pub mod Revisions
 pub mod Viewing

@@ -1,24 +1,33 @@
 //! A client in memory.
-ghost use Rattle.std.specs.Prelude.{◌≡◌, ℕ, ◌∷◌, [], List, IfOk, OnOk, OnErr, MatchResult, length, map, slice_get};
+ghost use Rattle.std.specs.Prelude.{◌≡◌, ℕ, ◌<◌, ◌∷◌, ◌++◌, [], List, IfOk, OnOk, OnErr, MatchResult, length, map, slice_get};
 ghost use Rattle.std.specs.Option.{option_copied};
 ghost use Rattle.notebook.specs.declared.parts.Parts.{Parts};
 ghost use Rattle.notebook.specs.Book.{cells, found};
+ghost use Rattle.notebook.specs.Rules.{AreDistinct, cell_number};
 ghost use Rattle.session_ops.specs.declared.entry.Entry.{Entry};
 ghost use Rattle.session_ops.specs.State.{state};
 ghost use Rattle.session_ops.specs.Snapshot.{IsSnapshot, revisions_of};
-ghost use Rattle.client_sync.specs.Client.{Client as Holder, Done, edited, held, delivered, joined_client, with_message, received_entry, pending_of};
+ghost use Rattle.client_sync.specs.Client.{Client as Holder, Done, edited, held, delivered, joined_client, with_message, received_entry, pending_of, with_edit};
+ghost use Rattle.client_sync.specs.Own.{IsOwnText, IsOwnFault};
+ghost use Rattle.client_sync.specs.declared.pending.Unconfirmed.{Unconfirmed};
+ghost use Rattle.delta.specs.Moves.{composed};
 ghost use Rattle.client_sync.specs.Causes.{IsEditCause};
-ghost use Rattle.client_sync.specs.Stands.{Mirrors, IsPostable, IsNextEntry, HasTaken, IsPendingOf, IsViewOf, pending_in};
+ghost use Rattle.client_sync.specs.Stands.{Mirrors, IsPostable, IsNextEntry, HasTaken, IsPendingOf, IsViewOf, HasEdits, in_flight, edit_message, pending_in};
 
 use crate::edit_error::EditError;
 use crate::outbox::Outbox;
 use crate::pending::{PendingEdits, Unconfirmed, place_of};
-use delta::Delta;
+use crate::revs::rev_in;
+use delta::{ApplyError, Delta, compose, have_room};
 use delta_laws::nothing;
 use notebook::{CellId, Notebook};
 use plain_list::Items;
 use session_ops::{Entry, Op, Snapshot};
 use std::alloc::{AllocError, Global};
+use utf16_text::Text;
+
+/// The most UTF-16 units that an edit may insert.
+const MOST_INSERTED: u64 = 65_536;
 
 /// A notebook as of the client's last delivery, with the client's own unconfirmed edits done to it; and
 /// the messages that the server hasn't taken yet.
@@ -40,6 +49,7 @@ impl Client {
         ensures { (n0 : Parts) (seen : List Entry) → IsSnapshot (state n0 seen) (length seen) snapshot → IfOk result (λ c. Mirrors n0 c (joined_client number seen)) }
     {
         let Snapshot { book, revs, cursor } = snapshot;
+        are_apart(&book);
         Ok(Client {
             alloc,
             number,
@@ -57,15 +67,92 @@ impl Client {
     /// buffer. An edit without steps does nothing.
     ///
     /// It answers, in this order: `NoCell`; `EditTooLong` exactly above 65,536 inserted units; `PastEnd`
-    /// or `SplitsPair` exactly where the delta doesn't fit the client's own text. Nothing is then
-    /// changed. Nothing is said of the client after want of memory.
+    /// or `SplitsPair` exactly where the delta doesn't fit the client's own text. After each error, want of
+    /// memory too, the client is as it was.
     pub fn edit(&mut self, cell: CellId, delta: &Delta) -> Result<(), EditError>
         ensures edited { (n0 : Parts) (m : Holder) → Mirrors n0 self.old m → MatchResult result
             (λ _. (m' : Holder) × ((edited n0 m cell delta.now ≡ Done m') × Mirrors n0 self.new m'))
             (λ e. IsEditCause (edited n0 m cell delta.now) e) }
         ensures refused { OnErr result (self.new ≡ self.old) }
     {
-        Err(EditError::OutOfMemory)
+        let text = self.edited_text(cell, delta)?;
+        if delta.is_empty() {
+            return Ok(());
+        }
+        let base = rev_in(self.revs.as_slice(), cell);
+        if self.note_edit(cell, base, delta).is_err() {
+            return Err(EditError::OutOfMemory);
+        }
+        self.book.set_source(cell, text);
+        Ok(())
+    }
+
+    /// The text that an edit makes of a cell's own text.
+    fn edited_text(&self, cell: CellId, delta: &Delta) -> Result<Text, EditError>
+        ensures { MatchResult result (IsOwnText self.now.book cell delta.now) (IsOwnFault self.now.book cell delta.now) }
+    {
+        let Some(own) = self.book.find(cell) else {
+            return Err(EditError::NoCell);
+        };
+        if delta.inserted() > MOST_INSERTED {
+            return Err(EditError::EditTooLong);
+        }
+        match delta.apply(self.alloc, &own.source) {
+            Ok(text) => Ok(text),
+            Err(ApplyError::PastEnd { len }) => Err(EditError::PastEnd { len }),
+            Err(ApplyError::SplitsPair { at }) => Err(EditError::SplitsPair { at }),
+            Err(ApplyError::OutOfMemory) => Err(EditError::OutOfMemory),
+        }
+    }
+
+    /// Notes an edit of a cell, made at the revision `base`: with nothing of the cell in flight it is
+    /// posted, and else it goes into the buffer. The notebook stays. After an error nothing is changed.
+    fn note_edit(&mut self, cell: CellId, base: u64, delta: &Delta) -> Result<(), AllocError>
+        ensures noted { (m : Holder) → HasEdits self.old.pending self.old.outbox m → OnOk result (HasEdits self.new.pending self.new.outbox (with_edit m cell base delta.now (pending_of cell m.pending))) }
+        ensures rest { self.new ≡ record self.old { pending = self.new.pending; outbox = self.new.outbox } }
+        ensures err { OnErr result (self.new ≡ self.old) }
+    {
+        match place_of(self.pending.as_slice(), cell) {
+            None => self.post_edit(cell, base, delta),
+            Some(at) => self.buffer_edit(at, delta),
+        }
+    }
+
+    /// Puts an edit in flight, and its message at the outbox's end. After an error nothing is changed.
+    fn post_edit(&mut self, cell: CellId, base: u64, delta: &Delta) -> Result<(), AllocError>
+        ensures posted { OnOk result (self.new ≡ record self.old { pending = self.old.pending ++ in_flight cell delta.now ∷ []; outbox = self.old.outbox ++ edit_message cell base delta.now ∷ [] }) }
+        ensures err { OnErr result (self.new ≡ self.old) }
+    {
+        let flight = delta.copy(self.alloc)?;
+        let message = delta.copy(self.alloc)?;
+        self.outbox.push(Op::Delta {
+            cell,
+            base,
+            delta: message,
+        })?;
+        let buffer = nothing(self.alloc);
+        match self.pending.push(Unconfirmed {
+            cell,
+            flight,
+            buffer,
+        }) {
+            Ok(()) => Ok(()),
+            Err(error) => {
+                self.outbox.take_last();
+                Err(error)
+            }
+        }
+    }
+
+    /// Puts an edit behind those of the buffer at a place. After an error nothing is changed.
+    fn buffer_edit(&mut self, at: usize, delta: &Delta) -> Result<(), AllocError>
+        requires { at < length self.old.pending }
+        ensures joined { (front back : List Unconfirmed) (here : Unconfirmed) → self.old.pending ≡ front ++ here ∷ back → at ≡ length front → OnOk result (self.new ≡ record self.old { pending = front ++ record here { buffer = composed here.buffer delta.now } ∷ back }) }
+        ensures err { OnErr result (self.new ≡ self.old) }
+    {
+        let buffer = joined(self.alloc, &self.pending.as_slice()[at].buffer, delta)?;
+        self.pending.item_mut(at).buffer = buffer;
+        Ok(())
     }
 
     /// Puts a message at the outbox's end. After want of memory nothing is changed.
@@ -161,4 +248,21 @@ impl Client {
             },
         }
     }
+}
+
+/// First `a` and then `b`, as one delta. No machine holds deltas that have no room beside each other.
+fn joined(alloc: Global, a: &Delta, b: &Delta) -> Result<Delta, AllocError>
+    ensures { IfOk result (λ d. d ≡ composed a.now b.now) }
+{
+    if !have_room(a, b) {
+        return Err(AllocError);
+    }
+    compose(alloc, a, b)
+}
+
+/// The cells of a notebook have numbers of their own.
+fn are_apart(book: &Notebook)
+    ensures { AreDistinct (map cell_number (cells book.now)) }
+{
+    book.parts();
 }

@@ -8,6 +8,7 @@ mod client;
 mod edit_error;
 mod outbox;
 mod pending;
+mod revs;
 
 pub use client::Client;
 pub use edit_error::EditError;
