@@ -1,14 +1,12 @@
 -- Notebooks in which one cell's source is replaced.
-use Rattle.std.proofs.Common.{◌≡◌, ℕ, ◌+◌, ◌==◌, Bool, true, false, if◌then◌else◌, List, [], ◌∷◌, ◌++◌, map, Option, Some, None, refl, sym, ap, subst, ◌∙◌, arith, add-one, get_or, length}
+use Rattle.std.proofs.Common.{◌≡◌, ℕ, ◌+◌, ◌==◌, true, false, if◌then◌else◌, List, [], ◌∷◌, ◌++◌, map, Some, refl, sym, ap, subst, ◌∙◌, arith, add-one, get_or}
 use Rattle.std.specs.Prelude.{Contains}
 use Rattle.std.proofs.lemmas.Bool.{eqb-true, eq-eqb}
-use Rattle.std.proofs.lemmas.Bool.Decides.{nat_tests}
 use Rattle.std.proofs.lemmas.List.{map-append, length-append, get_or_append_left}
-use Rattle.std.specs.List.{flat_map}
 use Rattle.notebook.specs.declared.parts.Cell.{Cell}
 use Rattle.notebook.specs.declared.parts.Section.{Section}
 use Rattle.notebook.specs.declared.parts.Parts.{Parts}
-use Rattle.notebook.specs.Book.{cells, cells_of, found, resourced_cell, resourced_cells, resourced_sections, resourced, source_for, with_source}
+use Rattle.notebook.specs.Book.{cells, found, resourced_cell, resourced_cells, resourced_sections, resourced, source_for, with_source}
 use Rattle.notebook.specs.Rules.{AreDistinct, IsNotebook, cell_number, numbered_cells}
 use Rattle.session_ops.proofs.Sources.{Agree, same-book}
 

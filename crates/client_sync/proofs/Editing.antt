@@ -1,13 +1,12 @@
 -- A client that edits goes on standing for what the definitions say.
-use Rattle.std.proofs.Common.{◌≡◌, ◌≢◌, ℕ, ◌<◌, ◌≤◌, ◌==◌, Bool, true, false, if◌then◌else◌, List, [], ◌∷◌, ◌++◌, length, map, Option, Some, None, refl, sym, ap, subst, ◌∙◌, arith}
+use Rattle.std.proofs.Common.{◌≡◌, ◌≢◌, ℕ, ◌<◌, ◌≤◌, ◌==◌, true, false, List, [], ◌∷◌, length, map, Option, Some, None, refl, sym, ap, subst, ◌∙◌, arith}
 use Rattle.std.specs.Prelude.{nat_lt}
 use Rattle.std.specs.Option.{option_map}
-use Rattle.std.proofs.lemmas.Bool.{eqb-true, eq-eqb}
+use Rattle.std.proofs.lemmas.Bool.{eqb-true}
 use Rattle.std.proofs.lemmas.Bool.Decides.{nat_tests}
 use Rattle.delta.specs.declared.Step.{Step}
 use Rattle.delta.specs.Steps.{inserted_by}
-use Rattle.delta.specs.Moves.{FitsText, text_after, composed}
-use Rattle.delta_laws.specs.Laws.{DeltaLaws, IsNothing}
+use Rattle.delta.specs.Moves.{FitsText, text_after}
 use Rattle.delta_laws.proofs.Laws.{delta_laws}
 use Rattle.notebook.specs.declared.parts.Cell.{Cell}
 use Rattle.notebook.specs.declared.parts.Parts.{Parts}
@@ -16,10 +15,10 @@ use Rattle.session_ops.specs.State.{State, state, Misfit, Past, Splits, revision
 use Rattle.session_ops.specs.Snapshot.{revisions_of}
 use Rattle.session_ops.specs.declared.entry.Entry.{Entry}
 use Rattle.notebook.specs.Rules.{AreDistinct, cell_number}
-use Rattle.client_sync.specs.Client.{Client as Holder, Pending, Edited, Done, EditTooLong, Unfit, pending_of, after_buffer, with_pending, own_source, delivered, held, edited, edited_cell, with_fitting, with_edit, buffered}
+use Rattle.client_sync.specs.Client.{Client as Holder, Pending, Done, EditTooLong, Unfit, pending_of, with_pending, own_source, delivered, edited, edited_cell, with_fitting, with_edit}
 use Rattle.client_sync.specs.Causes.{IsEditCause}
-use Rattle.client_sync.specs.Fits.{HasSource, FitsHere}
-use Rattle.client_sync.specs.Own.{IsOwnText, IsOwnMisfit, IsOwnFault}
+use Rattle.client_sync.specs.Fits.{FitsHere}
+use Rattle.client_sync.specs.Own.{IsOwnText, IsOwnFault}
 use Rattle.client_sync.specs.Revisions.{rev_among}
 use Rattle.client_sync.specs.Stands.{Mirrors, HasEdits}
 use Rattle.client_sync.specs.declared.client.Client.{Client}

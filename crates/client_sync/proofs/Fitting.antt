@@ -1,5 +1,5 @@
 -- When deltas fit, and what a delta that was applied makes of a cell's source.
-use Rattle.std.proofs.Common.{◌≡◌, ℕ, ◌+◌, ◌≤◌, ◌<◌, ◌==◌, Bool, true, false, if◌then◌else◌, List, [], ◌∷◌, ◌++◌, length, drop, map, Option, Some, None, refl, sym, ap, subst, ◌∙◌, arith}
+use Rattle.std.proofs.Common.{◌≡◌, ℕ, ◌+◌, ◌==◌, true, false, if◌then◌else◌, List, [], ◌∷◌, drop, Option, Some, None, refl, sym, ap, subst, ◌∙◌, arith}
 use Rattle.std.specs.Prelude.{nat_lt, nat_le}
 use Rattle.std.proofs.lemmas.Bool.{eqb-true}
 use Rattle.std.proofs.lemmas.Bool.Decides.{nat_tests}
@@ -7,19 +7,20 @@ use Rattle.utf16_text.specs.Units.{unit_count}
 use Rattle.delta.specs.declared.Step.{Step}
 use Rattle.delta.specs.Steps.{reach_of, broken_cut}
 use Rattle.delta.specs.Moves.{FitsText, text_after, transformed, composed, over}
-use Rattle.delta_laws.specs.Laws.{DeltaLaws, IsPairMoved}
+use Rattle.delta_laws.specs.Laws.{IsPairMoved}
 use Rattle.delta_laws.proofs.Laws.{delta_laws}
 use Rattle.notebook.specs.declared.parts.Cell.{Cell}
 use Rattle.notebook.specs.declared.parts.Parts.{Parts}
-use Rattle.notebook.specs.Book.{cells, found, resourced_cell, resourced}
-use Rattle.session_ops.specs.declared.entry.Op.TheVariants.{Join, Delta, Queue}
+use Rattle.notebook.specs.Book.{cells, found}
+use Rattle.session_ops.specs.declared.entry.Op.TheVariants.{Delta}
 use Rattle.session_ops.specs.declared.entry.Call.TheVariants.{Client as ByClient}
 use Rattle.session_ops.specs.declared.entry.Refusal.TheVariants.{NotJoined, TooNew, TooOld}
 use Rattle.session_ops.specs.declared.entry.Reply.TheVariants.{Applied, Refused}
 use Rattle.session_ops.specs.State.{State, Misfit, Past, Splits, taken_by, revision, least, misfit, split_misfit, reply, delta_reply, judged_by}
 use Rattle.session_ops.specs.Work.{is_in}
 use Rattle.client_sync.specs.Client.{Pending, after_buffer, with_pending}
-use Rattle.client_sync.specs.Fits.{HasSource, FitsHere}
+use Rattle.client_sync.specs.Fits.{HasSource}
+use Rattle.client_sync.specs.Moving.{over_pending}
 use Rattle.client_sync.proofs.Edits.{shifted, with_buffer}
 
 -- a delta fits a text where nothing keeps it from it
@@ -104,10 +105,6 @@ buffer-shows d p t fb fd =
     let u : List ℕ = text_after p.flight t in
     sym (buffer-text (composed p.buffer d) p.flight t)
     ∙ ((delta_laws.one_after_the_other p.buffer d u fb (subst (FitsText d) (sym (buffer-text p.buffer p.flight t)) fd)).one_text ∙ ap (text_after d) (buffer-text p.buffer p.flight t))
-
--- another's delta moved over what is in flight and then over what is buffered
-abbrev pub over_pending : List Step → Pending → List Step
-over_pending x p = transformed true p.buffer (transformed true p.flight x)
 
 -- what another's delta makes of pending edits, and of the text that shows them
 pub record IsShifted (x : List Step) (p : Pending) (t : List ℕ) : Type 0 where

@@ -6,5 +6,7 @@ pub mod Holding
 pub mod Joining
 pub mod Noting
 pub mod Places
+pub mod Receiving
+pub mod Returning
 pub mod Revisions
 pub mod Viewing

@@ -1,20 +1,20 @@
 -- What noting an edit makes of the pending edits and the messages.
-use Rattle.std.proofs.Common.{◌≡◌, ℕ, ◌+◌, ◌<◌, ◌==◌, Bool, true, false, List, [], ◌∷◌, ◌++◌, Option, Some, None, length, get_or, set, map, refl, sym, ap, subst, ◌∙◌, arith}
+use Rattle.std.proofs.Common.{◌≡◌, ℕ, List, [], ◌∷◌, ◌++◌, Some, None, length, get_or, map, sym, ap, subst, ◌∙◌}
 use Rattle.std.specs.Prelude.{slice_get, slice_set}
 use Rattle.std.proofs.lemmas.Bool.{eq-eqb}
 use Rattle.std.proofs.lemmas.List.{map-append}
 use Rattle.std.proofs.lemmas.Option.{get_or_from_slice_get}
 use Rattle.std.proofs.Math.Seq.{set-append_seam, get_or-append_seam}
 use Rattle.delta.specs.declared.Step.{Step}
-use Rattle.delta.specs.Moves.{composed, transformed}
+use Rattle.delta.specs.Moves.{composed}
 use Rattle.notebook.specs.Rules.{AreDistinct}
 use Rattle.session_ops.specs.declared.entry.Op.{Op}
-use Rattle.client_sync.specs.Client.{Client as Holder, Pending, pending_of, with_edit, buffered, without, all_moved}
+use Rattle.client_sync.specs.Client.{Client as Holder, Pending, pending_of, with_edit, buffered}
 use Rattle.client_sync.specs.Stands.{HasEdits, IsPendingAt, pending_in, pending_cell, in_flight, edit_message}
 use Rattle.client_sync.specs.declared.client.Client.{Client}
 use Rattle.client_sync.specs.declared.pending.Unconfirmed.{Unconfirmed}
 use Rattle.client_sync.proofs.Places.{pending-there}
-use Rattle.client_sync.proofs.Edits.{StandsAlone, none-behind, buffered-alone, apart-added, cells-buffered, with_buffer}
+use Rattle.client_sync.proofs.Edits.{StandsAlone, none-behind, buffered-alone, apart-added, cells-buffered}
 
 -- the element at a place between a front and a back, and one written there
 pub there-read : (us front back : List Unconfirmed) (here : Unconfirmed) (at : ℕ) (d : Unconfirmed) → us ≡ front ++ here ∷ back → at ≡ length front → get_or us at d ≡ here

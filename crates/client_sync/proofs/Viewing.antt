@@ -1,16 +1,14 @@
 -- What a client shows of its pending edits.
-use Rattle.std.proofs.Common.{◌≡◌, ℕ, List, [], ◌∷◌, Option, Some, None, get_or, map, refl, sym, ap, subst, ◌∙◌}
-use Rattle.std.specs.Option.{option_copied, option_map}
+use Rattle.std.proofs.Common.{◌≡◌, ℕ, List, Option, Some, None, map, sym, ap, subst, ◌∙◌}
+use Rattle.std.specs.Option.{option_map}
 use Rattle.notebook.specs.declared.parts.Cell.{Cell}
 use Rattle.notebook.specs.declared.parts.Parts.{Parts}
-use Rattle.notebook.specs.Book.{cells, found, resourced_cell, resourced}
+use Rattle.notebook.specs.Book.{cells, found, resourced_cell}
 use Rattle.notebook.proofs.Sources.{found-resourced}
-use Rattle.client_sync.specs.Client.{Client as Holder, Pending, pending_of, own_source, delivered, held}
-use Rattle.client_sync.specs.Stands.{Mirrors, IsPendingAt, IsPendingOf, IsViewOf, pending_in}
+use Rattle.client_sync.specs.Client.{Client as Holder, Pending, pending_of, own_source, delivered}
+use Rattle.client_sync.specs.Stands.{Mirrors, IsPendingOf, IsViewOf, pending_in}
 use Rattle.client_sync.specs.declared.client.Client.{Client}
 use Rattle.client_sync.specs.declared.pending.PendingEdits.{PendingEdits}
-use Rattle.client_sync.specs.declared.pending.Unconfirmed.{Unconfirmed}
-use Rattle.client_sync.proofs.Places.{pending-there, here-at}
 
 -- a cell of the client's own is one of the server's
 pub found-held : (n0 : Parts) (c : Client) (m : Holder) (k : ℕ) → Mirrors n0 c m → found k (cells c.book) ≡ option_map (resourced_cell (own_source m.pending)) (found k (cells (delivered n0 m).book))

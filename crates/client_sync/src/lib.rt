@@ -4,6 +4,7 @@
 //! holds, what an edit makes of it, and what each received entry does.
 #![tactic(auto)]
 
+mod arrival;
 mod client;
 mod edit_error;
 mod outbox;

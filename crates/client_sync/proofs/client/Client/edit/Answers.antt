@@ -1,9 +1,9 @@
-use Rattle.std.proofs.Common.{rules, ◌≡◌, true, ap, subst, ◌∙◌}
+use Rattle.std.proofs.Common.{rules, ◌≡◌, true, ap, subst}
 use Rattle.std.specs.Prelude.{OnOk, Result, Ok, Err}
 use Rattle.std.specs.Result.{is_ok}
 use Rattle.notebook.specs.Book.{with_source}
 use Rattle.client_sync.specs.Revisions.{rev_among}
-use Rattle.client_sync.proofs.Editing.{IsSameBut, edit-refused, edit-empty, edit-done, has-steps, no-steps}
+use Rattle.client_sync.proofs.Editing.{edit-refused, edit-empty, edit-done, has-steps, no-steps}
 use Rattle.client_sync.proofs.client.Client.edit.Goals as goal
 
 -- what holds where a call was done

@@ -1,4 +1,4 @@
-use Rattle.std.proofs.Common.{◌≡◌, ap, subst, sym, map, None}
+use Rattle.std.proofs.Common.{◌≡◌, ap, subst, map, None}
 use Rattle.std.proofs.lemmas.Result.{on_ok_weaker}
 use Rattle.client_sync.specs.Client.{pending_of}
 use Rattle.client_sync.specs.Stands.{IsPendingAt, pending_in}

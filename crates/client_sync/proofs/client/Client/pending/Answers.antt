@@ -1,4 +1,3 @@
-use Rattle.std.proofs.Common.{sym, ◌∙◌}
 use Rattle.client_sync.proofs.Viewing.{pending-known, pending-unknown}
 use Rattle.client_sync.proofs.client.Client.pending.Goals as goal
 
