@@ -272,7 +272,8 @@ impl Client {
     }
 
     /// Takes in that another's delta of a cell was applied, which made the revision `rev`: what is
-    /// pending for the cell is moved over it, and it is done to the client's own text.
+    /// pending for the cell is moved over it, and it is done to the client's own text. One that doesn't
+    /// fit, as each of the client's own history does, leaves the text.
     fn take_foreign(&mut self, cell: CellId, rev: u64, delta: &Delta) -> Result<(), AllocError>
         ensures { (n0 : Parts) (m : Holder) (own : Cell) → Mirrors n0 self.old m → found cell (cells self.old.book) ≡ Some own → FitsText (over_option delta.now (pending_of cell m.pending)) own.source → OnOk result (IsMovedOver self.old self.new m cell rev delta.now (text_after (over_option delta.now (pending_of cell m.pending)) own.source)) }
     {
