@@ -1,1 +1,12 @@
+pub mod Books
+pub mod Editing
+pub mod Edits
+pub mod Fitting
 pub mod Holding
+pub mod Joining
+pub mod Noting
+pub mod Places
+pub mod Receiving
+pub mod Returning
+pub mod Revisions
+pub mod Viewing

@@ -1,4 +1,8 @@
+pub mod Arrivals
 pub mod Causes
 pub mod Client
 pub mod Fits
+pub mod Moving
+pub mod Own
+pub mod Revisions
 pub mod Stands

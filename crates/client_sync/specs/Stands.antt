@@ -1,10 +1,11 @@
 -- What a client in memory stands for.
-use Rattle.std.specs.Prelude.{◌≡◌, ℕ, List, [], ◌∷◌, length, map, Option, Some, None}
+use Rattle.std.specs.Prelude.{◌≡◌, ℕ, List, [], ◌∷◌, ◌++◌, length, map, Option, Some, None}
 use Rattle.std.specs.Option.{option_copied}
+use Rattle.delta.specs.declared.Step.{Step}
 use Rattle.notebook.specs.declared.parts.Cell.{Cell}
 use Rattle.notebook.specs.declared.parts.Parts.{Parts}
-use Rattle.notebook.specs.Book.{cells, found}
-use Rattle.notebook.specs.Rules.{AreDistinct}
+use Rattle.notebook.specs.Book.{cells}
+use Rattle.notebook.specs.Rules.{AreDistinct, cell_number}
 use Rattle.session_ops.specs.declared.entry.Op.{Op}
 use Rattle.session_ops.specs.declared.entry.Op.TheVariants.{Join, Delta, Queue}
 use Rattle.session_ops.specs.declared.entry.Call.{Call}
@@ -24,20 +25,45 @@ use Rattle.client_sync.specs.declared.pending.Unconfirmed.{Unconfirmed}
 abbrev pub pending_in : Unconfirmed → Pending
 pending_in u = record { cell = u.cell; flight = u.flight; buffer = u.buffer }
 
+-- an edit that is in flight, with nothing edited since
+abbrev pub in_flight : ℕ → List Step → Unconfirmed
+in_flight cell d = record { cell = cell; flight = d; buffer = [] }
+
+-- the message that posts an edit
+abbrev pub edit_message : ℕ → ℕ → List Step → Op
+edit_message cell base d = Delta cell base d
+
 abbrev pub pending_cell : Pending → ℕ
 pending_cell p = p.cell
 
--- the client in memory stands for this one: its notebook is what this one holds, its revisions are those at the last delivery, and all that is pending fits there
+-- these pending edits and messages in memory are this client's
+pub record HasEdits (us : List Unconfirmed) (ops : List Op) (m : Holder) : Type 0 where
+  pub pending : map pending_in us ≡ m.pending
+  pub outbox : ops ≡ m.outbox
+  pub apart : AreDistinct (map pending_cell m.pending)
+
+-- the first of some pending edits that is of the cell stands at the place
+pub record IsPendingAt (us : List Unconfirmed) (k at : ℕ) : Type 0 where
+  pub front : List Unconfirmed
+  pub here : Unconfirmed
+  pub back : List Unconfirmed
+  pub parts : us ≡ front ++ here ∷ back
+  pub number : here.cell ≡ k
+  pub place : at ≡ length front
+  pub first : pending_of k (map pending_in front) ≡ None
+
+-- the client in memory stands for this one: its notebook is what this one holds, its revisions are those at the last delivery, its cells have numbers of their own, and all that is pending fits there
 pub record Mirrors (n0 : Parts) (c : Client) (m : Holder) : Type 0 where
   pub number : c.number ≡ m.number
   pub cursor : c.cursor ≡ length m.seen
   pub book : c.book ≡ held n0 m
   pub revs : c.revs ≡ revisions_of (delivered n0 m) (cells (delivered n0 m).book)
   pub pending : map pending_in c.pending ≡ m.pending
-  pub outbox : c.outbox.items ≡ m.outbox
+  pub outbox : c.outbox ≡ m.outbox
   pub nothing : c.nothing ≡ []
   pub apart : AreDistinct (map pending_cell m.pending)
   pub fits : (k : ℕ) (p : Pending) → pending_of k m.pending ≡ Some p → FitsHere (delivered n0 m) k p
+  pub numbers : AreDistinct (map cell_number (cells (delivered n0 m).book))
 
 -- an operation that may be posted as it is: joins and deltas can't be
 abbrev pub IsPostable : Op → Type 0

@@ -1,23 +1,39 @@
 //! A client in memory.
-ghost use Rattle.std.specs.Prelude.{◌≡◌, ℕ, ◌∷◌, [], List, IfOk, OnOk, OnErr, MatchResult, length, slice_get};
+ghost use Rattle.std.specs.Prelude.{◌≡◌, ℕ, ◌+◌, ◌<◌, ◌∷◌, ◌++◌, [], false, true, List, Some, IfOk, OnOk, OnErr, MatchResult, length, map, slice_get};
 ghost use Rattle.std.specs.Option.{option_copied};
 ghost use Rattle.notebook.specs.declared.parts.Parts.{Parts};
 ghost use Rattle.notebook.specs.Book.{cells, found};
+ghost use Rattle.notebook.specs.Rules.{AreDistinct, cell_number};
 ghost use Rattle.session_ops.specs.declared.entry.Entry.{Entry};
 ghost use Rattle.session_ops.specs.State.{state};
 ghost use Rattle.session_ops.specs.Snapshot.{IsSnapshot, revisions_of};
-ghost use Rattle.client_sync.specs.Client.{Client as Holder, Done, edited, held, delivered, joined_client, with_message, received_entry, pending_of};
+ghost use Rattle.client_sync.specs.Client.{Client as Holder, Done, edited, held, delivered, joined_client, with_message, received_entry, pending_of, with_edit, with_own, all_moved};
+ghost use Rattle.client_sync.specs.Own.{IsOwnText, IsOwnFault};
+ghost use Rattle.client_sync.specs.declared.pending.Unconfirmed.{Unconfirmed};
+ghost use Rattle.delta.specs.Moves.{FitsText, composed, transformed, text_after};
+ghost use Rattle.delta.specs.Sides.{is_right};
+ghost use Rattle.notebook.specs.declared.parts.Cell.{Cell};
+ghost use Rattle.client_sync.specs.Moving.{over_pending, over_option, IsMovedOver};
+ghost use Rattle.client_sync.specs.Revisions.{raised};
 ghost use Rattle.client_sync.specs.Causes.{IsEditCause};
-ghost use Rattle.client_sync.specs.Stands.{Mirrors, IsPostable, IsNextEntry, HasTaken, IsPendingOf};
+ghost use Rattle.client_sync.specs.Stands.{Mirrors, IsPostable, IsNextEntry, HasTaken, IsPendingOf, IsViewOf, HasEdits, IsPendingAt, in_flight, edit_message, pending_in};
 
+use crate::arrival::applied_by;
 use crate::edit_error::EditError;
-use crate::pending::{PendingEdits, Unconfirmed};
-use delta::Delta;
+use crate::outbox::Outbox;
+use crate::pending::{PendingEdits, Unconfirmed, place_of};
+use crate::revs::{raise, rev_in};
+use delta::{ApplyError, Delta, Side, compose, have_room, transform};
+use delta_laws::nothing;
 use notebook::{CellId, Notebook};
 use plain_list::Items;
 use session_ops::{Entry, Op, Snapshot};
 use std::alloc::{AllocError, Global};
-use std::collections::VecDeque;
+use std::mem;
+use utf16_text::Text;
+
+/// The most UTF-16 units that an edit may insert.
+const MOST_INSERTED: u64 = 65_536;
 
 /// A notebook as of the client's last delivery, with the client's own unconfirmed edits done to it; and
 /// the messages that the server hasn't taken yet.
@@ -29,7 +45,7 @@ pub struct Client {
     book: Notebook,
     revs: Items<(CellId, u64)>,
     pending: Items<Unconfirmed>,
-    outbox: VecDeque<Op>,
+    outbox: Outbox,
     nothing: Delta,
 }
 
@@ -38,7 +54,18 @@ impl Client {
     pub fn join(alloc: Global, number: u32, snapshot: Snapshot) -> Result<Client, AllocError>
         ensures { (n0 : Parts) (seen : List Entry) → IsSnapshot (state n0 seen) (length seen) snapshot → IfOk result (λ c. Mirrors n0 c (joined_client number seen)) }
     {
-        Err(AllocError)
+        let Snapshot { book, revs, cursor } = snapshot;
+        are_apart(&book);
+        Ok(Client {
+            alloc,
+            number,
+            cursor,
+            book,
+            revs,
+            pending: Items::new(alloc),
+            outbox: Outbox::new(alloc),
+            nothing: nothing(alloc),
+        })
     }
 
     /// Edits a cell of the client's own notebook, by a delta over the client's own text, in UTF-16
@@ -46,15 +73,92 @@ impl Client {
     /// buffer. An edit without steps does nothing.
     ///
     /// It answers, in this order: `NoCell`; `EditTooLong` exactly above 65,536 inserted units; `PastEnd`
-    /// or `SplitsPair` exactly where the delta doesn't fit the client's own text. Nothing is then
-    /// changed. Nothing is said of the client after want of memory.
+    /// or `SplitsPair` exactly where the delta doesn't fit the client's own text. After each error, want of
+    /// memory too, the client is as it was.
     pub fn edit(&mut self, cell: CellId, delta: &Delta) -> Result<(), EditError>
         ensures edited { (n0 : Parts) (m : Holder) → Mirrors n0 self.old m → MatchResult result
             (λ _. (m' : Holder) × ((edited n0 m cell delta.now ≡ Done m') × Mirrors n0 self.new m'))
             (λ e. IsEditCause (edited n0 m cell delta.now) e) }
         ensures refused { OnErr result (self.new ≡ self.old) }
     {
-        Err(EditError::OutOfMemory)
+        let text = self.edited_text(cell, delta)?;
+        if delta.is_empty() {
+            return Ok(());
+        }
+        let base = rev_in(self.revs.as_slice(), cell);
+        if self.note_edit(cell, base, delta).is_err() {
+            return Err(EditError::OutOfMemory);
+        }
+        self.book.set_source(cell, text);
+        Ok(())
+    }
+
+    /// The text that an edit makes of a cell's own text.
+    fn edited_text(&self, cell: CellId, delta: &Delta) -> Result<Text, EditError>
+        ensures { MatchResult result (IsOwnText self.now.book cell delta.now) (IsOwnFault self.now.book cell delta.now) }
+    {
+        let Some(own) = self.book.find(cell) else {
+            return Err(EditError::NoCell);
+        };
+        if delta.inserted() > MOST_INSERTED {
+            return Err(EditError::EditTooLong);
+        }
+        match delta.apply(self.alloc, &own.source) {
+            Ok(text) => Ok(text),
+            Err(ApplyError::PastEnd { len }) => Err(EditError::PastEnd { len }),
+            Err(ApplyError::SplitsPair { at }) => Err(EditError::SplitsPair { at }),
+            Err(ApplyError::OutOfMemory) => Err(EditError::OutOfMemory),
+        }
+    }
+
+    /// Notes an edit of a cell, made at the revision `base`: with nothing of the cell in flight it is
+    /// posted, and else it goes into the buffer. The notebook stays. After an error nothing is changed.
+    fn note_edit(&mut self, cell: CellId, base: u64, delta: &Delta) -> Result<(), AllocError>
+        ensures noted { (m : Holder) → HasEdits self.old.pending self.old.outbox m → OnOk result (HasEdits self.new.pending self.new.outbox (with_edit m cell base delta.now (pending_of cell m.pending))) }
+        ensures rest { self.new ≡ record self.old { pending = self.new.pending; outbox = self.new.outbox } }
+        ensures err { OnErr result (self.new ≡ self.old) }
+    {
+        match place_of(self.pending.as_slice(), cell) {
+            None => self.post_edit(cell, base, delta),
+            Some(at) => self.buffer_edit(at, delta),
+        }
+    }
+
+    /// Puts an edit in flight, and its message at the outbox's end. After an error nothing is changed.
+    fn post_edit(&mut self, cell: CellId, base: u64, delta: &Delta) -> Result<(), AllocError>
+        ensures posted { OnOk result (self.new ≡ record self.old { pending = self.old.pending ++ in_flight cell delta.now ∷ []; outbox = self.old.outbox ++ edit_message cell base delta.now ∷ [] }) }
+        ensures err { OnErr result (self.new ≡ self.old) }
+    {
+        let flight = delta.copy(self.alloc)?;
+        let message = delta.copy(self.alloc)?;
+        self.outbox.push(Op::Delta {
+            cell,
+            base,
+            delta: message,
+        })?;
+        let buffer = nothing(self.alloc);
+        match self.pending.push(Unconfirmed {
+            cell,
+            flight,
+            buffer,
+        }) {
+            Ok(()) => Ok(()),
+            Err(error) => {
+                self.outbox.take_last();
+                Err(error)
+            }
+        }
+    }
+
+    /// Puts an edit behind those of the buffer at a place. After an error nothing is changed.
+    fn buffer_edit(&mut self, at: usize, delta: &Delta) -> Result<(), AllocError>
+        requires { at < length self.old.pending }
+        ensures joined { (front back : List Unconfirmed) (here : Unconfirmed) → self.old.pending ≡ front ++ here ∷ back → at ≡ length front → OnOk result (self.new ≡ record self.old { pending = front ++ record here { buffer = composed here.buffer delta.now } ∷ back }) }
+        ensures err { OnErr result (self.new ≡ self.old) }
+    {
+        let buffer = joined(self.alloc, &self.pending.as_slice()[at].buffer, delta)?;
+        self.pending.item_mut(at).buffer = buffer;
+        Ok(())
     }
 
     /// Puts a message at the outbox's end. After want of memory nothing is changed.
@@ -63,12 +167,13 @@ impl Client {
         ensures posted { (n0 : Parts) (m : Holder) → Mirrors n0 self.old m → OnOk result (Mirrors n0 self.new (with_message m op)) }
         ensures err { OnErr result (self.new ≡ self.old) }
     {
-        Err(AllocError)
+        self.outbox.push(op)?;
+        Ok(())
     }
 
     /// The message at the outbox's front; `None` exactly where the outbox is empty. Takes no memory.
     pub fn outbox_front(&self) -> Option<&Op>
-        ensures { option_copied result ≡ slice_get self.now.outbox.items 0 }
+        ensures { option_copied result ≡ slice_get self.now.outbox 0 }
     {
         self.outbox.front()
     }
@@ -85,7 +190,7 @@ impl Client {
     pub fn take_front(&mut self) -> Option<Op>
         ensures { (n0 : Parts) (m : Holder) → Mirrors n0 self.old m → HasTaken n0 m self.new result }
     {
-        self.outbox.pop_front()
+        self.outbox.take_front()
     }
 
     /// Receives the next entry of the history. A client's own delta that came back ends what was in
@@ -94,7 +199,118 @@ impl Client {
     pub fn receive(&mut self, entry: &Entry) -> Result<(), AllocError>
         ensures { (n0 : Parts) (m : Holder) → Mirrors n0 self.old m → IsNextEntry n0 m entry.now → OnOk result (Mirrors n0 self.new (received_entry n0 m entry.now)) }
     {
-        Err(AllocError)
+        let Some(cursor) = self.cursor.checked_add(1) else {
+            return Err(AllocError);
+        };
+        self.take_entry(entry)?;
+        self.cursor = cursor;
+        Ok(())
+    }
+
+    /// Takes in what the next entry tells; the cursor stays.
+    fn take_entry(&mut self, entry: &Entry) -> Result<(), AllocError>
+        ensures { (n0 : Parts) (m : Holder) → Mirrors n0 self.old m → IsNextEntry n0 m entry.now → OnOk result (Mirrors n0 (record self.new { cursor = length m.seen + 1 }) (received_entry n0 m entry.now)) }
+    {
+        match applied_by(entry) {
+            None => Ok(()),
+            Some(applied) => {
+                if applied.client == self.number {
+                    self.take_own(applied.cell, applied.rev)
+                } else {
+                    self.take_foreign(applied.cell, applied.rev, applied.delta)
+                }
+            }
+        }
+    }
+
+    /// Takes in that the client's own delta of a cell came back, which made the revision `rev`. The
+    /// notebook stays.
+    fn take_own(&mut self, cell: CellId, rev: u64) -> Result<(), AllocError>
+        ensures taken { (m : Holder) → HasEdits self.old.pending self.old.outbox m → OnOk result (HasEdits self.new.pending self.new.outbox (with_own m cell rev (pending_of cell m.pending))) }
+        ensures rest { OnOk result (self.new ≡ record self.old { revs = raised cell rev self.old.revs; pending = self.new.pending; outbox = self.new.outbox }) }
+    {
+        self.raise(cell, rev);
+        match place_of(self.pending.as_slice(), cell) {
+            None => Ok(()),
+            Some(at) => self.acknowledge(at, cell, rev),
+        }
+    }
+
+    /// Ends what is in flight at a place, and posts what is buffered there, unless it is empty.
+    fn acknowledge(&mut self, at: usize, cell: CellId, rev: u64) -> Result<(), AllocError>
+        requires { at < length self.old.pending }
+        ensures posted { (m : Holder) → HasEdits self.old.pending self.old.outbox m → IsPendingAt self.old.pending cell at → OnOk result (HasEdits self.new.pending self.new.outbox (with_own m cell rev (pending_of cell m.pending))) }
+        ensures rest { OnOk result (self.new ≡ record self.old { pending = self.new.pending; outbox = self.new.outbox }) }
+    {
+        let done = self.take_out(at);
+        if done.buffer.is_empty() {
+            return Ok(());
+        }
+        self.post_edit(cell, rev, &done.buffer)?;
+        Ok(())
+    }
+
+    /// Takes the pending edits at a place out.
+    fn take_out(&mut self, at: usize) -> Unconfirmed
+        requires { at < length self.old.pending }
+        ensures taken { (front back : List Unconfirmed) (here : Unconfirmed) → self.old.pending ≡ front ++ here ∷ back → at ≡ length front → (result ≡ here) × (self.new.pending ≡ front ++ back) }
+        ensures rest { self.new ≡ record self.old { pending = self.new.pending } }
+    {
+        let mut edits = mem::replace(&mut self.pending, Items::new(self.alloc)).into_vec();
+        let done = edits.remove(at);
+        self.pending = Items::from_vec(edits);
+        done
+    }
+
+    /// Gives a cell a revision.
+    fn raise(&mut self, cell: CellId, rev: u64)
+        ensures { self.new ≡ record self.old { revs = raised cell rev self.old.revs } }
+    {
+        let mut revs = mem::replace(&mut self.revs, Items::new(self.alloc)).into_vec();
+        raise(&mut revs, cell, rev);
+        self.revs = Items::from_vec(revs);
+    }
+
+    /// Takes in that another's delta of a cell was applied, which made the revision `rev`: what is
+    /// pending for the cell is moved over it, and it is done to the client's own text. One that doesn't
+    /// fit, as each of the client's own history does, leaves the text.
+    fn take_foreign(&mut self, cell: CellId, rev: u64, delta: &Delta) -> Result<(), AllocError>
+        ensures { (n0 : Parts) (m : Holder) (own : Cell) → Mirrors n0 self.old m → found cell (cells self.old.book) ≡ Some own → FitsText (over_option delta.now (pending_of cell m.pending)) own.source → OnOk result (IsMovedOver self.old self.new m cell rev delta.now (text_after (over_option delta.now (pending_of cell m.pending)) own.source)) }
+    {
+        self.raise(cell, rev);
+        let shown = self.move_pending(cell, delta)?;
+        let Some(text) = self.text_after(cell, &shown)? else {
+            return Ok(());
+        };
+        self.book.set_source(cell, text);
+        Ok(())
+    }
+
+    /// Moves what is pending for a cell over another's delta, and gives the delta moved over what is
+    /// pending.
+    fn move_pending(&mut self, cell: CellId, delta: &Delta) -> Result<Delta, AllocError>
+        ensures moved { (m : Holder) → HasEdits self.old.pending self.old.outbox m → IfOk result (λ x. (x ≡ over_option delta.now (pending_of cell m.pending)) × HasEdits self.new.pending self.new.outbox (record m { pending = all_moved cell delta.now m.pending })) }
+        ensures rest { self.new ≡ record self.old { pending = self.new.pending } }
+    {
+        match place_of(self.pending.as_slice(), cell) {
+            None => delta.copy(self.alloc),
+            Some(at) => move_over(self.alloc, self.pending.item_mut(at), delta),
+        }
+    }
+
+    /// What a delta makes of a cell's own text; `None` where there is no such cell or the delta doesn't
+    /// fit its text.
+    fn text_after(&self, cell: CellId, delta: &Delta) -> Result<Option<Text>, AllocError>
+        ensures { (own : Cell) → found cell (cells self.now.book) ≡ Some own → FitsText delta.now own.source → IfOk result (λ text. text ≡ Some (text_after delta.now own.source)) }
+    {
+        let Some(own) = self.book.find(cell) else {
+            return Ok(None);
+        };
+        match delta.apply(self.alloc, &own.source) {
+            Ok(text) => Ok(Some(text)),
+            Err(ApplyError::OutOfMemory) => Err(AllocError),
+            Err(ApplyError::PastEnd { .. } | ApplyError::SplitsPair { .. }) => Ok(None),
+        }
     }
 
     /// The client's number. Takes no memory.
@@ -129,6 +345,65 @@ impl Client {
     pub fn pending(&self, cell: CellId) -> Option<PendingEdits<'_>>
         ensures { (n0 : Parts) (m : Holder) → Mirrors n0 self.now m → IsPendingOf (found cell (cells (delivered n0 m).book)) result (pending_of cell m.pending) }
     {
-        None
+        self.book.find(cell)?;
+        Some(self.pending_edits(cell))
     }
+
+    /// What is pending for a cell, whether or not the client has it.
+    fn pending_edits(&self, cell: CellId) -> PendingEdits<'_>
+        ensures { self.now.nothing ≡ [] → IsViewOf result (pending_of cell (map pending_in self.now.pending)) }
+    {
+        let pending = self.pending.as_slice();
+        match place_of(pending, cell) {
+            None => PendingEdits {
+                inflight: None,
+                buffer: &self.nothing,
+            },
+            Some(at) => PendingEdits {
+                inflight: Some(&pending[at].flight),
+                buffer: &pending[at].buffer,
+            },
+        }
+    }
+}
+
+/// First `a` and then `b`, as one delta. No machine holds deltas that have no room beside each other.
+fn joined(alloc: Global, a: &Delta, b: &Delta) -> Result<Delta, AllocError>
+    ensures { IfOk result (λ d. d ≡ composed a.now b.now) }
+{
+    if !have_room(a, b) {
+        return Err(AllocError);
+    }
+    compose(alloc, a, b)
+}
+
+/// The cells of a notebook have numbers of their own.
+fn are_apart(book: &Notebook)
+    ensures { AreDistinct (map cell_number (cells book.now)) }
+{
+    book.parts();
+}
+
+/// Moves pending edits over another's delta, which goes first in every tie, and gives the delta moved
+/// over what was in flight and then over what was buffered.
+fn move_over(alloc: Global, edits: &mut Unconfirmed, delta: &Delta) -> Result<Delta, AllocError>
+    ensures { IfOk result (λ x. (x ≡ over_pending delta.now (pending_in edits.old)) × (edits.new ≡ record edits.old { flight = transformed false delta.now edits.old.flight; buffer = transformed false (transformed true edits.old.flight delta.now) edits.old.buffer })) }
+{
+    let over_flight = moved(alloc, &edits.flight, delta, Side::Right)?;
+    let flight = moved(alloc, delta, &edits.flight, Side::Left)?;
+    let shown = moved(alloc, &edits.buffer, &over_flight, Side::Right)?;
+    let buffer = moved(alloc, &over_flight, &edits.buffer, Side::Left)?;
+    edits.flight = flight;
+    edits.buffer = buffer;
+    Ok(shown)
+}
+
+/// `right` as it goes after `left`. No machine holds deltas that have no room beside each other.
+fn moved(alloc: Global, left: &Delta, right: &Delta, first: Side) -> Result<Delta, AllocError>
+    ensures { IfOk result (λ d. d ≡ transformed (is_right first) left.now right.now) }
+{
+    if !have_room(left, right) {
+        return Err(AllocError);
+    }
+    transform(alloc, left, right, first)
 }

@@ -1,4 +1,8 @@
 //! Edits of a client that aren't confirmed yet.
+ghost use Rattle.std.specs.Prelude.{◌≡◌, None, map, MatchOption};
+ghost use Rattle.client_sync.specs.Client.{pending_of};
+ghost use Rattle.client_sync.specs.Stands.{IsPendingAt, pending_in};
+
 use delta::Delta;
 use notebook::CellId;
 
@@ -16,4 +20,16 @@ pub struct Unconfirmed {
 pub struct PendingEdits<'a> {
     pub inflight: Option<&'a Delta>,
     pub buffer: &'a Delta,
+}
+
+/// The place of the first pending edits of a cell.
+pub(crate) fn place_of(pending: &[Unconfirmed], cell: CellId) -> Option<usize>
+    ensures { MatchOption result (pending_of cell (map pending_in pending.now) ≡ None) (IsPendingAt pending.now cell) }
+{
+    for (at, edits) in pending.iter().enumerate() {
+        if edits.cell == cell {
+            return Some(at);
+        }
+    }
+    None
 }

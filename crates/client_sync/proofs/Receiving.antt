@@ -1,0 +1,370 @@
+-- A client that receives an entry goes on standing for what the definitions say.
+use Rattle.std.proofs.Common.{◌≡◌, ◌≢◌, ℕ, ◌+◌, ◌==◌, Bool, true, false, if◌then◌else◌, List, [], ◌∷◌, ◌++◌, length, map, Option, Some, None, refl, sym, ap, subst, ◌∙◌, arith, ne_eqb}
+use Rattle.std.specs.Option.{option_map}
+use Rattle.std.proofs.lemmas.Bool.{eqb-true, eq-eqb}
+use Rattle.std.proofs.lemmas.Bool.Decides.{nat_tests}
+use Rattle.std.proofs.lemmas.List.{append-nil, length-append}
+use Rattle.delta.specs.declared.Step.{Step}
+use Rattle.delta.specs.Moves.{FitsText, text_after}
+use Rattle.delta_laws.proofs.Laws.{delta_laws}
+use Rattle.notebook.specs.declared.parts.Cell.{Cell}
+use Rattle.notebook.specs.declared.parts.Parts.{Parts}
+use Rattle.notebook.specs.Book.{cells, found, resourced_cell, resourced, with_source}
+use Rattle.notebook.specs.Rules.{AreDistinct, cell_number}
+use Rattle.notebook.proofs.Sources.{found-resourced, live_numbers-resourced}
+use Rattle.session_ops.specs.declared.entry.Op.TheVariants.{Join, Delta, Queue}
+use Rattle.session_ops.specs.declared.entry.Call.{Call}
+use Rattle.session_ops.specs.declared.entry.Call.TheVariants.{Client as ByClient, Start, Respond}
+use Rattle.session_ops.specs.declared.entry.Reply.{Reply}
+use Rattle.session_ops.specs.declared.entry.Reply.TheVariants.{Accepted, Applied, Started, Stored}
+use Rattle.session_ops.specs.declared.entry.Entry.{Entry}
+use Rattle.session_ops.specs.State.{State, Taken, state, after, after_call, taken_by, revision, moved_source, reply}
+use Rattle.session_ops.specs.Snapshot.{revisions_of}
+use Rattle.session_ops.proofs.Growing.{state-append}
+use Rattle.client_sync.specs.Arrivals.{Arriving, arriving}
+use Rattle.client_sync.specs.Client.{Client as Holder, Pending, pending_of, after_buffer, with_pending, own_source, delivered, with_own, with_call, reposted, all_moved, without, received_entry}
+use Rattle.client_sync.specs.Fits.{HasSource, FitsHere}
+use Rattle.client_sync.specs.Moving.{over_option, IsMovedOver}
+use Rattle.client_sync.specs.Revisions.{raised}
+use Rattle.client_sync.specs.Stands.{Mirrors, HasEdits, IsNextEntry, IsOwnFlight}
+use Rattle.client_sync.specs.declared.client.Client.{Client}
+use Rattle.client_sync.proofs.Books.{fused, same-each, with-one-source}
+use Rattle.client_sync.proofs.Editing.{FitsOver, fits-over, fits-either, revs_at}
+use Rattle.client_sync.proofs.Edits.{shifted_option, shifted-same, shifted-other, without-same, without-other, pending-added, pending-beside}
+use Rattle.client_sync.proofs.Fitting.{IsTaken, IsShifted, applied-taken, found-number, shift-fits}
+use Rattle.client_sync.proofs.Revisions.{revisions-raised}
+use Rattle.client_sync.proofs.Viewing.{found-held}
+
+-- the deltas that a cell took, with one more
+more-of : (b : Bool) (d : List Step) (xs ys : List (List Step)) → (if b then d ∷ (xs ++ ys) else xs ++ ys) ≡ (if b then d ∷ xs else xs) ++ ys
+more-of true d xs ys = refl
+more-of false d xs ys = refl
+
+taken-append : (k : ℕ) (ts : List Taken) (t : Taken) → taken_by k (ts ++ t ∷ []) ≡ taken_by k ts ++ (if t.cell == k then t.delta ∷ [] else [])
+taken-append k [] t = refl
+taken-append k (u ∷ ts) t = rw (taken-append k ts t) (more-of (u.cell == k) u.delta (taken_by k ts) (if t.cell == k then t.delta ∷ [] else []))
+
+grown : (xs : List (List Step)) (x : List Step) (b : Bool) → length (xs ++ (if b then x ∷ [] else [])) ≡ (if b then length xs + 1 else length xs)
+grown xs x true = length-append xs (x ∷ [])
+grown xs x false = ap length (append-nil xs)
+
+-- what an entry with a delta that was applied makes of the state
+pub record IsArrived (s t : State) (k rev : ℕ) (x : List Step) : Type 0 where
+  pub book : t.book ≡ resourced (moved_source k x) s.book
+  pub revisions : (j : ℕ) → revision t j ≡ (if j == k then rev else revision s j)
+  pub taken : IsTaken s k rev x
+
+raised-rev : (b : Bool) (n rev r : ℕ) → (b ≡ true → rev ≡ n + 1) → (b ≡ true → r ≡ n) → (if b then r + 1 else r) ≡ (if b then rev else r)
+raised-rev true n rev r e h = ap (λ i. i + 1) (h refl) ∙ sym (e refl)
+raised-rev false n rev r e h = refl
+
+arrived-call : (s : State) (n k base rev : ℕ) (d x : List Step) → IsTaken s k rev x → (j : ℕ) → revision (after_call s (ByClient n (Delta k base d)) (Applied rev x)) j ≡ (if j == k then rev else revision s j)
+arrived-call s n k base rev d x is j =
+    let flip : (k == j) ≡ (j == k) = grind (arith, nat_tests) in
+    ap length (taken-append j s.taken (record { cell = k; delta = x }))
+    ∙ (grown (taken_by j s.taken) x (k == j)
+    ∙ (ap (λ b. if b then revision s j + 1 else revision s j) flip
+    ∙ raised-rev (j == k) (revision s k) rev (revision s j) (λ t. is.next) (λ t. ap (revision s) (eqb-true j k t))))
+
+arrived-of : (s : State) (e : Entry) (n k base rev : ℕ) (d x : List Step) → e.call ≡ ByClient n (Delta k base d) → e.reply ≡ Applied rev x → e.reply ≡ reply s e.call → IsArrived s (after s e) k rev x
+arrived-of s e n k base rev d x call answer right =
+    let taken : IsTaken s k rev x = applied-taken s n k base rev d x (sym (sym answer ∙ (right ∙ ap (reply s) call))) in
+    let same : after_call s e.call e.reply ≡ after_call s (ByClient n (Delta k base d)) (Applied rev x) = ap (λ c. after_call s c e.reply) call ∙ ap (after_call s (ByClient n (Delta k base d))) answer in
+    record {
+      book = ap (λ t. t.book) same;
+      revisions = λ j. ap (λ t. revision t j) same ∙ arrived-call s n k base rev d x taken j;
+      taken = taken;
+    }
+
+-- the call and the reply of what arrived
+pub record CameBy (call : Call) (answer : Reply) (a : Arriving) : Type 0 where
+  pub base : ℕ
+  pub delta : List Step
+  pub call_is : call ≡ ByClient a.client (Delta a.cell base delta)
+  pub answer_is : answer ≡ Applied a.rev a.delta
+
+pub came-by : (call : Call) (answer : Reply) (a : Arriving) → arriving call answer ≡ Some a → CameBy call answer a
+came-by (ByClient n (Delta k base d)) (Applied rev x) a e =
+    let same : record { client = n; cell = k; rev = rev; delta = x } ≡ a = cc e in
+    subst (CameBy (ByClient n (Delta k base d)) (Applied rev x)) same (record { base = base; delta = d; call_is = refl; answer_is = refl })
+came-by call answer a e = absurd (cc e)
+
+-- the state at the client's next delivery
+abbrev next_state : Parts → Holder → Entry → State
+next_state n0 m e = state n0 (m.seen ++ e ∷ [])
+
+pub arrived : (n0 : Parts) (m : Holder) (e : Entry) (a : Arriving) → CameBy e.call e.reply a → IsNextEntry n0 m e → IsArrived (delivered n0 m) (next_state n0 m e) a.cell a.rev a.delta
+arrived n0 m e a by next =
+    subst (λ t. IsArrived (delivered n0 m) t a.cell a.rev a.delta) (sym (state-append n0 m.seen e)) (arrived-of (delivered n0 m) e a.client a.cell by.base a.rev by.delta a.delta by.call_is by.answer_is next.right)
+
+-- the client with the entry received, before what it tells is taken in
+abbrev pub seen_more : Holder → Entry → Holder
+seen_more m e = record m { seen = m.seen ++ e ∷ [] }
+
+-- each cell's source at the next delivery
+source-moved : (x : List Step) (k : ℕ) (c : Cell) (b : Bool) → (c.id == k) ≡ b → moved_source k x c ≡ (if b then text_after x c.source else c.source)
+source-moved x k c b e = ap (λ t. if t then text_after x c.source else c.source) e
+
+-- another cell's pending edits fit as they did
+beside-fits : (s t : State) (k rev j : ℕ) (x : List Step) (p : Pending) → IsArrived s t k rev x → (k == j) ≡ false → FitsHere s j p → FitsHere t j p
+beside-fits s t k rev j x p is ne f =
+    let cell : Cell = f.there.own in
+    let number : cell.id ≡ j = found-number j (cells s.book) cell f.there.there in
+    let other : (cell.id == k) ≡ false = grind (arith, nat_tests, ne, number) in
+    let there : found j (cells t.book) ≡ Some (resourced_cell (moved_source k x) cell) = ap (λ n. found j (cells n)) is.book ∙ (found-resourced (moved_source k x) j s.book ∙ ap (option_map (resourced_cell (moved_source k x))) f.there.there) in
+    record { source = f.source; there = record { own = resourced_cell (moved_source k x) cell; there = there; source = source-moved x k cell false other ∙ f.there.source }; flight = f.flight; buffer = f.buffer }
+
+-- the cell itself has the delta applied to its source
+here-source : (s t : State) (k rev : ℕ) (x : List Step) (is : IsArrived s t k rev x) → HasSource t.book k (text_after x is.taken.own.source)
+here-source s t k rev x is =
+    let cell : Cell = is.taken.own in
+    let same : (cell.id == k) ≡ true = eq-eqb cell.id k (found-number k (cells s.book) cell is.taken.there) in
+    record {
+      own = resourced_cell (moved_source k x) cell;
+      there = ap (λ n. found k (cells n)) is.book ∙ (found-resourced (moved_source k x) k s.book ∙ ap (option_map (resourced_cell (moved_source k x))) is.taken.there);
+      source = source-moved x k cell true same;
+    }
+
+-- what the client knows of the revisions
+revs-arrived : (s t : State) (k rev : ℕ) (x : List Step) → IsArrived s t k rev x → raised k rev (revisions_of s (cells s.book)) ≡ revisions_of t (cells t.book)
+revs-arrived s t k rev x is =
+    revisions-raised s t (cells s.book) (cells t.book) k rev (ap (λ n. map cell_number (cells n)) is.book ∙ live_numbers-resourced (moved_source k x) s.book) is.revisions
+
+numbers-arrived : (s t : State) (k rev : ℕ) (x : List Step) → IsArrived s t k rev x → AreDistinct (map cell_number (cells s.book)) → AreDistinct (map cell_number (cells t.book))
+numbers-arrived s t k rev x is d = subst AreDistinct (sym (ap (λ n. map cell_number (cells n)) is.book ∙ live_numbers-resourced (moved_source k x) s.book)) d
+
+-- a client in memory after a delta arrived
+pub record HasArrived (c c' : Client) (k rev : ℕ) : Type 0 where
+  pub number : c'.number ≡ c.number
+  pub revs : c'.revs ≡ raised k rev c.revs
+  pub nothing : c'.nothing ≡ c.nothing
+
+arrived-mirrors : (n0 : Parts) (c c' : Client) (m m' : Holder) (e : Entry) (k rev : ℕ) (x : List Step) → Mirrors n0 c m → IsArrived (delivered n0 m) (next_state n0 m e) k rev x → m'.number ≡ m.number → m'.seen ≡ m.seen ++ e ∷ [] → HasArrived c c' k rev → HasEdits c'.pending c'.outbox m'
+    → c'.book ≡ resourced (own_source m'.pending) (next_state n0 m e).book → ((j : ℕ) (p : Pending) → pending_of j m'.pending ≡ Some p → FitsHere (next_state n0 m e) j p) → Mirrors n0 (record c' { cursor = length m.seen + 1 }) m'
+arrived-mirrors n0 c c' m m' e k rev x is new en es has edits eb fits =
+    record {
+      number = has.number ∙ (is.number ∙ sym en);
+      cursor = sym (ap length es ∙ length-append m.seen (e ∷ []));
+      book = eb ∙ ap (λ h. resourced (own_source m'.pending) (state n0 h).book) (sym es);
+      revs = subst (λ h. c'.revs ≡ revs_at n0 h) (sym es) (has.revs ∙ (ap (raised k rev) is.revs ∙ revs-arrived (delivered n0 m) (next_state n0 m e) k rev x new));
+      pending = edits.pending;
+      outbox = edits.outbox;
+      nothing = has.nothing ∙ is.nothing;
+      apart = edits.apart;
+      fits = subst (λ h. (j : ℕ) (p : Pending) → pending_of j m'.pending ≡ Some p → FitsHere (state n0 h) j p) (sym es) fits;
+      numbers = subst (λ h. AreDistinct (map cell_number (cells (state n0 h).book))) (sym es) (numbers-arrived (delivered n0 m) (next_state n0 m e) k rev x new is.numbers);
+    }
+
+-- the own delta came back: what was buffered is in flight, unless it is empty
+abbrev back_option : ℕ → List Step → Option Pending
+back_option k [] = None
+back_option k (s ∷ b) = Some (record { cell = k; flight = s ∷ b; buffer = [] })
+
+back-there : (m : Holder) (k rev : ℕ) (b : List Step) → pending_of k (reposted m k rev b).pending ≡ back_option k b
+back-there m k rev [] = without-same k m.pending
+back-there m k rev (s ∷ b) = pending-added k (without k m.pending) (record { cell = k; flight = s ∷ b; buffer = [] }) (without-same k m.pending) refl
+
+back-beside : (m : Holder) (k rev j : ℕ) (b : List Step) → (k == j) ≡ false → pending_of j (reposted m k rev b).pending ≡ pending_of j m.pending
+back-beside m k rev j [] ne = without-other k j m.pending ne
+back-beside m k rev j (s ∷ b) ne = pending-beside j (without k m.pending) (record { cell = k; flight = s ∷ b; buffer = [] }) ne ∙ without-other k j m.pending ne
+
+back-number : (m : Holder) (k rev : ℕ) (b : List Step) → (reposted m k rev b).number ≡ m.number
+back-number m k rev [] = refl
+back-number m k rev (s ∷ b) = refl
+
+back-seen : (m : Holder) (k rev : ℕ) (b : List Step) → (reposted m k rev b).seen ≡ m.seen
+back-seen m k rev [] = refl
+back-seen m k rev (s ∷ b) = refl
+
+back-text : (k : ℕ) (b : List Step) (u : List ℕ) → with_pending (back_option k b) u ≡ after_buffer b u
+back-text k [] u = refl
+back-text k (s ∷ b) u = refl
+
+back-fits : (k : ℕ) (b : List Step) (u : List ℕ) (q : Pending) → FitsText b u → back_option k b ≡ Some q → FitsText q.flight u × FitsText q.buffer (text_after q.flight u)
+back-fits k [] u q f e = absurd (cc e)
+back-fits k (s ∷ b) u q f e =
+    let same : record { cell = k; flight = s ∷ b; buffer = [] } ≡ q = cc e in
+    subst (λ (r : Pending). FitsText r.flight u × FitsText r.buffer (text_after r.flight u)) same (f, delta_laws.nothing.fits (text_after (s ∷ b) u))
+
+-- the own text stays
+own-text : (m : Holder) (k rev : ℕ) (x : List Step) (p : Pending) (y : Cell) → pending_of k m.pending ≡ Some p → x ≡ p.flight → own_source m.pending y ≡ own_source (reposted m k rev p.buffer).pending (resourced_cell (moved_source k x) y)
+own-text m k rev x p y e same =
+    let new : List Pending = (reposted m k rev p.buffer).pending in
+    elim (y.id == k)
+    as (λ b. (y.id == k) ≡ b → with_pending (pending_of y.id m.pending) y.source ≡ with_pending (pending_of y.id new) (moved_source k x y)) [
+      | true ↦ λ t. let at : y.id ≡ k = eqb-true y.id k t in
+          let left : with_pending (pending_of y.id m.pending) y.source ≡ after_buffer p.buffer (text_after p.flight y.source) = ap (λ i. with_pending (pending_of i m.pending) y.source) at ∙ ap (λ o. with_pending o y.source) e in
+          let right : with_pending (pending_of y.id new) (moved_source k x y) ≡ after_buffer p.buffer (text_after x y.source) =
+          ap (λ i. with_pending (pending_of i new) (moved_source k x y)) at ∙ (ap (λ o. with_pending o (moved_source k x y)) (back-there m k rev p.buffer) ∙ (back-text k p.buffer (moved_source k x y) ∙ ap (after_buffer p.buffer) (source-moved x k y true t))) in
+          left ∙ (ap (λ d. after_buffer p.buffer (text_after d y.source)) (sym same) ∙ sym right)
+      | false ↦ λ t. let ne : (k == y.id) ≡ false = grind (arith, nat_tests, t) in
+          sym (ap (λ o. with_pending o (moved_source k x y)) (back-beside m k rev y.id p.buffer ne) ∙ ap (with_pending (pending_of y.id m.pending)) (source-moved x k y false t))
+    ]
+    refl
+
+own-book : (s t : State) (m : Holder) (k rev : ℕ) (x : List Step) (p : Pending) → IsArrived s t k rev x → pending_of k m.pending ≡ Some p → x ≡ p.flight → resourced (own_source m.pending) s.book ≡ resourced (own_source (reposted m k rev p.buffer).pending) t.book
+own-book s t m k rev x p is e same =
+    let g : Cell → List ℕ = own_source (reposted m k rev p.buffer).pending in
+    same-each (own_source m.pending) (λ y. g (resourced_cell (moved_source k x) y)) s.book (λ y. own-text m k rev x p y e same)
+    ∙ (sym (fused (moved_source k x) g s.book) ∙ ap (resourced g) (sym is.book))
+
+own-fits : (s t : State) (m : Holder) (k rev : ℕ) (x : List Step) (p : Pending) → (is : IsArrived s t k rev x) → pending_of k m.pending ≡ Some p → x ≡ p.flight → FitsOver is.taken.own.source (Some p) → ((j : ℕ) (q : Pending) → pending_of j m.pending ≡ Some q → FitsHere s j q)
+    → (j : ℕ) (q : Pending) → pending_of j (reposted m k rev p.buffer).pending ≡ Some q → FitsHere t j q
+own-fits s t m k rev x p is e same over old =
+    let src : List ℕ = is.taken.own.source in
+    let fb : FitsText p.buffer (text_after x src) = subst (λ d. FitsText p.buffer (text_after d src)) (sym same) over.1 in
+    fits-either t (reposted m k rev p.buffer).pending k
+    (λ q at. let f = back-fits k p.buffer (text_after x src) q fb (sym (back-there m k rev p.buffer) ∙ at) in
+    record { source = text_after x src; there = here-source s t k rev x is; flight = f.0; buffer = f.1 })
+    (λ j q ne at. beside-fits s t k rev j x q is ne (old j q (sym (back-beside m k rev j p.buffer ne) ∙ at)))
+
+-- what is in flight is what came back
+flight-of : (m : Holder) (n k base rev : ℕ) (d x : List Step) (call : Call) (answer : Reply) → call ≡ ByClient n (Delta k base d) → answer ≡ Applied rev x → n ≡ m.number → IsOwnFlight m call answer → (p : Pending) × ((pending_of k m.pending ≡ Some p) × (x ≡ p.flight))
+flight-of m n k base rev d x call answer c a mine own = (subst (λ r. IsOwnFlight m (ByClient n (Delta k base d)) r) a (subst (λ i. IsOwnFlight m i answer) c own)) mine
+
+received-of : (n0 : Parts) (m : Holder) (e : Entry) (a : Arriving) → CameBy e.call e.reply a → received_entry n0 m e ≡ (if a.client == m.number then with_own (seen_more m e) a.cell a.rev (pending_of a.cell m.pending) else record (seen_more m e) { pending = all_moved a.cell a.delta m.pending })
+received-of n0 m e a by = ap (λ c. with_call (seen_more m e) c e.reply) by.call_is ∙ ap (with_call (seen_more m e) (ByClient a.client (Delta a.cell by.base by.delta))) by.answer_is
+
+-- the client's own delta came back
+pub own-mirrors : (n0 : Parts) (c c' : Client) (m : Holder) (e : Entry) (a : Arriving) → Mirrors n0 c m → IsNextEntry n0 m e → CameBy e.call e.reply a → a.client ≡ c.number
+    → HasEdits c'.pending c'.outbox (with_own (seen_more m e) a.cell a.rev (pending_of a.cell m.pending)) → c' ≡ record c { revs = raised a.cell a.rev c.revs; pending = c'.pending; outbox = c'.outbox } → Mirrors n0 (record c' { cursor = length m.seen + 1 }) (received_entry n0 m e)
+own-mirrors n0 c c' m e a is next by mine edits rest =
+    let s : State = delivered n0 m in
+    let t : State = next_state n0 m e in
+    let new : IsArrived s t a.cell a.rev a.delta = arrived n0 m e a by next in
+    let me : a.client ≡ m.number = mine ∙ is.number in
+    let f : (p : Pending) × ((pending_of a.cell m.pending ≡ Some p) × (a.delta ≡ p.flight)) = flight-of m a.client a.cell by.base a.rev by.delta a.delta e.call e.reply by.call_is by.answer_is me next.own in
+    let m' : Holder = reposted (seen_more m e) a.cell a.rev f.0.buffer in
+    let some : with_own (seen_more m e) a.cell a.rev (pending_of a.cell m.pending) ≡ m' = ap (with_own (seen_more m e) a.cell a.rev) f.1.0 in
+    let received : received_entry n0 m e ≡ m' = received-of n0 m e a by ∙ (ap (λ b. if b then with_own (seen_more m e) a.cell a.rev (pending_of a.cell m.pending) else record (seen_more m e) { pending = all_moved a.cell a.delta m.pending }) (eq-eqb a.client m.number me) ∙ some) in
+    let over : FitsOver new.taken.own.source (Some f.0) = subst (FitsOver new.taken.own.source) f.1.0 (fits-over n0 c m a.cell new.taken.own is new.taken.there) in
+    subst (Mirrors n0 (record c' { cursor = length m.seen + 1 })) (sym received)
+    (arrived-mirrors n0 c c' m m' e a.cell a.rev a.delta is new (back-number (seen_more m e) a.cell a.rev f.0.buffer) (back-seen (seen_more m e) a.cell a.rev f.0.buffer)
+    (record { number = ap (λ (x : Client). x.number) rest; revs = ap (λ (x : Client). x.revs) rest; nothing = ap (λ (x : Client). x.nothing) rest })
+    (subst (HasEdits c'.pending c'.outbox) some edits)
+    (ap (λ (x : Client). x.book) rest ∙ (is.book ∙ own-book s t (seen_more m e) a.cell a.rev a.delta f.0 new f.1.0 f.1.1))
+    (own-fits s t (seen_more m e) a.cell a.rev a.delta f.0 new f.1.0 f.1.1 over is.fits))
+
+-- another's delta, over what may be pending
+record IsOver (x : List Step) (o : Option Pending) (t : List ℕ) : Type 0 where
+  shown : FitsText (over_option x o) (with_pending o t)
+  text : with_pending (shifted_option x o) (text_after x t) ≡ text_after (over_option x o) (with_pending o t)
+  after : FitsOver (text_after x t) (shifted_option x o)
+
+over-of : (x : List Step) (o : Option Pending) (t : List ℕ) → FitsText x t → FitsOver t o → IsOver x o t
+over-of x None t fx h = record { shown = fx; text = refl; after = tt }
+over-of x (Some p) t fx h =
+    let i : IsShifted x p t = shift-fits x p t fx h.0 h.1 in
+    record { shown = i.shown; text = i.text; after = (i.flight, i.buffer) }
+
+-- the cell of the client's own that another's delta is for
+pub record IsForeign (n0 : Parts) (c : Client) (m : Holder) (k : ℕ) (x : List Step) : Type 0 where
+  pub own : Cell
+  pub there : found k (cells c.book) ≡ Some own
+  pub fits : FitsText (over_option x (pending_of k m.pending)) own.source
+  pub source : (cell : Cell) → found k (cells (delivered n0 m).book) ≡ Some cell → own.source ≡ with_pending (pending_of k m.pending) cell.source
+
+foreign-over : (n0 : Parts) (c : Client) (m : Holder) (e : Entry) (a : Arriving) → Mirrors n0 c m → (new : IsArrived (delivered n0 m) (next_state n0 m e) a.cell a.rev a.delta) → IsOver a.delta (pending_of a.cell m.pending) new.taken.own.source
+foreign-over n0 c m e a is new = over-of a.delta (pending_of a.cell m.pending) new.taken.own.source new.taken.fits (fits-over n0 c m a.cell new.taken.own is new.taken.there)
+
+pub is-foreign : (n0 : Parts) (c : Client) (m : Holder) (e : Entry) (a : Arriving) → Mirrors n0 c m → IsNextEntry n0 m e → CameBy e.call e.reply a → IsForeign n0 c m a.cell a.delta
+is-foreign n0 c m e a is next by =
+    let new : IsArrived (delivered n0 m) (next_state n0 m e) a.cell a.rev a.delta = arrived n0 m e a by next in
+    let cell : Cell = new.taken.own in
+    let o : Option Pending = pending_of a.cell m.pending in
+    let number : cell.id ≡ a.cell = found-number a.cell (cells (delivered n0 m).book) cell new.taken.there in
+    let source : with_pending (pending_of cell.id m.pending) cell.source ≡ with_pending o cell.source = ap (λ i. with_pending (pending_of i m.pending) cell.source) number in
+    record {
+      own = resourced_cell (own_source m.pending) cell;
+      there = found-held n0 c m a.cell is ∙ ap (option_map (resourced_cell (own_source m.pending))) new.taken.there;
+      fits = subst (FitsText (over_option a.delta o)) (sym source) (foreign-over n0 c m e a is new).shown;
+      source = λ other there. let same : cell ≡ other = cc (new.taken.there, there) in source ∙ ap (λ (y : Cell). with_pending o y.source) same;
+    }
+
+foreign-book : (s t : State) (m : Holder) (k rev : ℕ) (x : List Step) (text : List ℕ) → (is : IsArrived s t k rev x) → AreDistinct (map cell_number (cells s.book)) → with_pending (shifted_option x (pending_of k m.pending)) (text_after x is.taken.own.source) ≡ text → with_source k text (resourced (own_source m.pending) s.book) ≡ resourced (own_source (all_moved k x m.pending)) t.book
+foreign-book s t m k rev x text is apart e =
+    let cell : Cell = is.taken.own in
+    let new : List Pending = all_moved k x m.pending in
+    let number : cell.id ≡ k = found-number k (cells s.book) cell is.taken.there in
+    let here : own_source new (resourced_cell (moved_source k x) cell) ≡ text =
+    ap (λ i. with_pending (pending_of i new) (moved_source k x cell)) number
+    ∙ (ap (λ o. with_pending o (moved_source k x cell)) (shifted-same k x m.pending) ∙ (ap (with_pending (shifted_option x (pending_of k m.pending))) (source-moved x k cell true (eq-eqb cell.id k number)) ∙ e)) in
+    with-one-source (own_source m.pending) (λ y. own_source new (resourced_cell (moved_source k x) y)) s.book k text cell apart is.taken.there here
+    (λ y ne. ap (λ o. with_pending o (moved_source k x y)) (shifted-other k y.id x m.pending (grind (arith, nat_tests, ne))) ∙ ap (with_pending (pending_of y.id m.pending)) (source-moved x k y false ne))
+    ∙ (sym (fused (moved_source k x) (own_source new) s.book) ∙ ap (resourced (own_source new)) (sym is.book))
+
+foreign-fits : (s t : State) (m : Holder) (k rev : ℕ) (x : List Step) → (is : IsArrived s t k rev x) → FitsOver (text_after x is.taken.own.source) (shifted_option x (pending_of k m.pending)) → ((j : ℕ) (q : Pending) → pending_of j m.pending ≡ Some q → FitsHere s j q)
+    → (j : ℕ) (q : Pending) → pending_of j (all_moved k x m.pending) ≡ Some q → FitsHere t j q
+foreign-fits s t m k rev x is over old =
+    fits-either t (all_moved k x m.pending) k
+    (λ q at. let f = subst (FitsOver (text_after x is.taken.own.source)) (sym (shifted-same k x m.pending) ∙ at) over in
+    record { source = text_after x is.taken.own.source; there = here-source s t k rev x is; flight = f.0; buffer = f.1 })
+    (λ j q ne at. beside-fits s t k rev j x q is ne (old j q (sym (shifted-other k j x m.pending ne) ∙ at)))
+
+-- another's delta was applied
+pub foreign-mirrors : (n0 : Parts) (c c' : Client) (m : Holder) (e : Entry) (a : Arriving) → Mirrors n0 c m → IsNextEntry n0 m e → CameBy e.call e.reply a → a.client ≢ c.number → (f : IsForeign n0 c m a.cell a.delta)
+    → IsMovedOver c c' m a.cell a.rev a.delta (text_after (over_option a.delta (pending_of a.cell m.pending)) f.own.source) → Mirrors n0 (record c' { cursor = length m.seen + 1 }) (received_entry n0 m e)
+foreign-mirrors n0 c c' m e a is next by other f moved =
+    let s : State = delivered n0 m in
+    let t : State = next_state n0 m e in
+    let o : Option Pending = pending_of a.cell m.pending in
+    let new : IsArrived s t a.cell a.rev a.delta = arrived n0 m e a by next in
+    let over : IsOver a.delta o new.taken.own.source = foreign-over n0 c m e a is new in
+    let m' : Holder = record (seen_more m e) { pending = all_moved a.cell a.delta m.pending } in
+    let apart : (a.client == m.number) ≡ false = ne_eqb a.client m.number (λ w. other (w ∙ sym is.number)) in
+    let received : received_entry n0 m e ≡ m' = received-of n0 m e a by ∙ ap (λ b. if b then with_own (seen_more m e) a.cell a.rev o else m') apart in
+    let text : with_pending (shifted_option a.delta o) (text_after a.delta new.taken.own.source) ≡ text_after (over_option a.delta o) f.own.source = over.text ∙ ap (text_after (over_option a.delta o)) (sym (f.source new.taken.own new.taken.there)) in
+    subst (Mirrors n0 (record c' { cursor = length m.seen + 1 })) (sym received)
+    (arrived-mirrors n0 c c' m m' e a.cell a.rev a.delta is new refl refl
+    (record { number = ap (λ (x : Client). x.number) moved.same; revs = ap (λ (x : Client). x.revs) moved.same; nothing = ap (λ (x : Client). x.nothing) moved.same })
+    (record { pending = moved.edits.pending; outbox = moved.edits.outbox; apart = moved.edits.apart })
+    (ap (λ (x : Client). x.book) moved.same ∙ (ap (with_source a.cell (text_after (over_option a.delta o) f.own.source)) is.book ∙ foreign-book s t m a.cell a.rev a.delta (text_after (over_option a.delta o) f.own.source) new is.numbers text))
+    (foreign-fits s t m a.cell a.rev a.delta new over.after is.fits))
+
+-- what changes neither a source nor a revision
+record IsStill (s t : State) : Type 0 where
+  book : t.book ≡ s.book
+  taken : t.taken ≡ s.taken
+
+still-call : (s : State) (call : Call) (answer : Reply) → arriving call answer ≡ None → IsStill s (after_call s call answer)
+still-call s (ByClient n (Delta k base d)) (Applied rev x) e = absurd (cc e)
+still-call s (ByClient n Join) Accepted e = record { book = refl; taken = refl }
+still-call s (ByClient n (Queue cell)) Accepted e = record { book = refl; taken = refl }
+still-call s (Start lane) (Started eval cell) e = record { book = refl; taken = refl }
+still-call s (Respond eval shown) (Stored i) e = record { book = refl; taken = refl }
+still-call s call answer e = record { book = refl; taken = refl }
+
+still-received : (m : Holder) (call : Call) (answer : Reply) → arriving call answer ≡ None → with_call m call answer ≡ m
+still-received m (ByClient n (Delta k base d)) (Applied rev x) e = absurd (cc e)
+still-received m call answer e = refl
+
+still-after : (s : State) (e : Entry) → arriving e.call e.reply ≡ None → IsStill s (after s e)
+still-after s e none = let h : IsStill s (after_call s e.call e.reply) = still-call s e.call e.reply none in record { book = h.book; taken = h.taken }
+
+revs-still : (s t : State) (cs : List Cell) → t.taken ≡ s.taken → revisions_of t cs ≡ revisions_of s cs
+revs-still s t [] e = refl
+revs-still s t (c ∷ cs) e = ap (λ ts. (c.id, length (taken_by c.id ts)) ∷ revisions_of t cs) e ∙ ap (λ rs. (c.id, revision s c.id) ∷ rs) (revs-still s t cs e)
+
+still-fits : (s t : State) (j : ℕ) (p : Pending) → IsStill s t → FitsHere s j p → FitsHere t j p
+still-fits s t j p is f = record { source = f.source; there = subst (λ n. HasSource n j f.source) (sym is.book) f.there; flight = f.flight; buffer = f.buffer }
+
+-- any other entry moves the cursor alone
+pub still-mirrors : (n0 : Parts) (c : Client) (m : Holder) (e : Entry) → Mirrors n0 c m → arriving e.call e.reply ≡ None → Mirrors n0 (record c { cursor = length m.seen + 1 }) (received_entry n0 m e)
+still-mirrors n0 c m e is none =
+    let s : State = delivered n0 m in
+    let t : State = next_state n0 m e in
+    let same : IsStill s t = subst (IsStill s) (sym (state-append n0 m.seen e)) (still-after s e none) in
+    let m' : Holder = seen_more m e in
+    subst (Mirrors n0 (record c { cursor = length m.seen + 1 })) (sym (still-received m' e.call e.reply none))
+    (record {
+      number = is.number;
+      cursor = sym (length-append m.seen (e ∷ []));
+      book = is.book ∙ ap (resourced (own_source m.pending)) (sym same.book);
+      revs = is.revs ∙ (sym (revs-still s t (cells s.book) same.taken) ∙ ap (λ n. revisions_of t (cells n)) (sym same.book));
+      pending = is.pending;
+      outbox = is.outbox;
+      nothing = is.nothing;
+      apart = is.apart;
+      fits = λ j p at. still-fits s t j p same (is.fits j p at);
+      numbers = subst (λ n. AreDistinct (map cell_number (cells n))) (sym same.book) is.numbers;
+    })

@@ -1,0 +1,25 @@
+use Rattle.std.proofs.Common.{◌≡◌, ◌≢◌, [], ◌∷◌, ◌++◌, sym, ap, ◌∙◌}
+use Rattle.client_sync.specs.Stands.{edit_message}
+use Rattle.client_sync.proofs.Editing.{has-steps, no-steps}
+use Rattle.client_sync.proofs.Returning.{gone-has, back-has, kept-rest, posted-rest}
+use Rattle.client_sync.proofs.client.Client.acknowledge.Goals as goal
+
+pub returns-then-is_empty-clause-posted : goal.returns-then-is_empty-clause-posted
+returns-then-is_empty-clause-posted c = λ m h p.
+    let out = c.take_out-done.ensures.taken p.front p.back p.here p.parts p.place in
+    let none : p.here.buffer ≡ [] = ap (λ u. u.buffer) (sym out.0) ∙ no-steps c.take_out-done.result.buffer c.if-is_empty.ensures in
+    gone-has c.args.self.now.pending _ c.args.self.now.outbox _ m c.args.cell c.args.at c.args.rev h p none out.1 (ap (λ x. x.outbox) c.take_out-done.ensures.rest)
+
+pub returns-then-is_empty-clause-rest : goal.returns-then-is_empty-clause-rest
+returns-then-is_empty-clause-rest c = kept-rest c.args.self.now c.take_out-done.new.self c.take_out-done.ensures.rest
+
+pub returns-clause-posted : goal.returns-clause-posted
+returns-clause-posted c = λ m h p.
+    let out = c.take_out-done.ensures.taken p.front p.back p.here p.parts p.place in
+    let some : c.take_out-done.result.buffer ≢ [] = has-steps c.take_out-done.result.buffer c.if-is_empty.ensures in
+    let e = c.in_ok-post_edit.ensures.posted in
+    back-has c.args.self.now.pending c.take_out-done.new.self.pending _ c.args.self.now.outbox _ m c.args.cell c.args.at c.args.rev c.take_out-done.result.buffer h p (ap (λ u. u.buffer) out.0) some out.1 (ap (λ x. x.pending) e)
+    (ap (λ x. x.outbox) e ∙ ap (λ os. os ++ edit_message c.args.cell c.args.rev c.take_out-done.result.buffer ∷ []) (ap (λ x. x.outbox) c.take_out-done.ensures.rest))
+
+pub returns-clause-rest : goal.returns-clause-rest
+returns-clause-rest c = posted-rest c.args.self.now c.take_out-done.new.self c.post_edit.new.self _ _ c.take_out-done.ensures.rest c.in_ok-post_edit.ensures.posted
