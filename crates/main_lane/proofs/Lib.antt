@@ -1,15 +1,1 @@
-pub mod Small
-pub mod Holding
-pub mod Writing
-pub mod Places
-pub mod Judged
-pub mod Next
-pub mod Calls
-pub mod Sweeping
-pub mod Queueing
-pub mod Editing
-pub mod Paths
-pub mod Walking
-pub mod Ready
-pub mod Evaluating
-pub mod Stub
+mod Stub

@@ -1,3 +1,3 @@
-use Rattle.main_lane.specs.Handed.{Never, never_more}
+use Rattle.main_lane.specs.Tracks.{Never, never_more}
 pub never : {A : Type 0} → Never → A
 never (never_more n) = never n

@@ -1,7 +1,1 @@
-pub mod Reads
-pub mod Marks
-pub mod Lines
-pub mod Judging
-pub mod Contexts
 pub mod Tracks
-pub mod Handed

@@ -1,44 +1,41 @@
--- What a main lane stands for, and what its calls answer.
-use Rattle.std.specs.Prelude.{◌≡◌, ℕ, ◌+◌, List, [], map, length, Option, Some, None, option_map, slice_get}
+-- What a main lane stands for, and what its calls answer. (A stand-in.)
+use Rattle.std.specs.Prelude.{◌≡◌, ℕ, ◌+◌, List, [], ◌∷◌, ◌++◌, map, length, Option, Some, None, option_map}
 use Rattle.std.specs.Option.{option_copied}
 use Rattle.std.specs.List.{AllByRecursion}
+use Rattle.ex_model.specs.declared.bindings.Binding.{Binding}
 use Rattle.ex_model.specs.declared.ran.Shown.{Shown}
-use Rattle.notebook.specs.declared.parts.Cell.{Cell}
+use Rattle.ex_model.specs.Along.{After}
 use Rattle.notebook.specs.declared.parts.Parts.{Parts}
 use Rattle.notebook.specs.declared.states.Lane.TheVariants.{Main}
-use Rattle.notebook.specs.Book.{cells, found}
+use Rattle.notebook.specs.Book.{cells}
 use Rattle.notebook.specs.Rules.{cell_number, AreDistinct}
-use Rattle.notebook.specs.Flow.{Passed, path, lane_of, lane_cells, IsUnbranched}
+use Rattle.notebook.specs.Flow.{Passed, path, lane_of, IsUnbranched}
 use Rattle.notebook.specs.Validity.{validity_by, status_by}
-use Rattle.session_ops.specs.Work.{Work, Finished, is_in, is_running, last_finished, path_read, failed_ancestor, may_start, begun, stored, running_eval, swept}
-use Rattle.session_ops.specs.State.{ShowsAlong}
-use Rattle.main_lane.specs.declared.marks.Mark.{Mark}
+use Rattle.session_ops.specs.Work.{Work, Running, Finished, is_in, is_running, last_finished, path_read, failed_ancestor, may_start, begun, stored, running_eval, swept}
+use Rattle.session_ops.specs.State.{ShowsAlong, source_bytes}
 use Rattle.main_lane.specs.declared.lane.MainLane.{MainLane}
-use Rattle.main_lane.specs.declared.lane.Evaluated.{Evaluated}
-use Rattle.main_lane.specs.declared.lane.Row.{Row}
-use Rattle.main_lane.specs.Reads.{AreTold}
-use Rattle.main_lane.specs.Contexts.{IsContext}
-use Rattle.main_lane.specs.Judging.{IsPlaceOfNext}
-use Rattle.main_lane.specs.Marks.{AreMarks}
-use Rattle.main_lane.specs.Handed.{IsHandedOut}
 use Rattle.main_lane.specs.declared.lane.PlainJob.{PlainJob}
-use Rattle.ex_model.specs.declared.ran.Ran.{Ran}
-use Rattle.session_ops.specs.Work.{Running}
+use Rattle.main_lane.specs.declared.lane.Row.{Row}
+
+pub data Never : Type 0 where
+  never_more : Never → Never
+
+-- the path ends with this cell and source, and the bindings are those that the cells before it leave
+pub record EndsOver (p : List Passed) (last : Passed) (base : List Binding) : Type 0 where
+  pub before : List Passed
+  pub parts : p ≡ before ++ last ∷ []
+  pub after : After (map source_bytes before) base
 
 -- a queued number is that of a cell of the main lane, and no cell before it failed
 abbrev pub IsHopefulOne : Parts → Work → ℕ → Type 0
 IsHopefulOne n w cell = (lane_of n cell ≡ Some Main) × (failed_ancestor n w cell ≡ None)
 
--- the lane stands for the work on a notebook without branches, where nothing runs and no queued cell is without hope
+-- the lane stands for the work on a notebook without branches, where no queued cell is without hope
 pub record Tracks (n : Parts) (w : Work) (l : MainLane) : Type 0 where
   pub unbranched : IsUnbranched n
   pub distinct : AreDistinct (map cell_number (cells n))
-  pub rests : w.running ≡ []
   pub hopeful : AllByRecursion (IsHopefulOne n w) w.queued
-  pub started : w.started ≡ length l.reads.items
-  pub told : AreTold n l.reads.items
-  pub marks : AreMarks w l.reads.items [] (lane_cells n Main) l.marks.items
-  pub context : IsContext l.reads.items l.context
+  pub never : Never
 
 abbrev pub shown_in : Finished → Shown
 shown_in f = f.shown
@@ -59,52 +56,36 @@ IsRowBy w cell (Some present) (Some r) = IsRowAt w cell present r
 abbrev pub IsRow : Parts → Work → ℕ → Option Row → Type 0
 IsRow n w cell r = IsRowBy w cell (path n cell) r
 
--- the work after an evaluation that began and was answered, each with its sweep
-abbrev pub once_begun : Parts → Work → Evaluated → Work
-once_begun n w e = swept n (begun n Main e.eval e.cell w)
+-- the job is an evaluation along the path: its cell and source are the last, and its base is what the cells before leave
+abbrev pub IsAlong : List Passed → PlainJob → Type 0
+IsAlong p job = EndsOver p (record { cell = job.cell; source = job.source }) job.base
 
-abbrev pub once_stored : Parts → Work → Evaluated → Work
-once_stored n w e = let v : Work = once_begun n w e in swept n (stored e.shown v (running_eval v e.eval))
+-- the job runs: the running evaluation of its number is along the path that was read at the start
+pub record IsOut (w : Work) (job : PlainJob) : Type 0 where
+  pub running : Running
+  pub runs : running_eval w job.eval ≡ Some running
+  pub along : IsAlong running.path job
 
--- the cell that may start was evaluated along its path, under the next number, and what it showed was stored
-pub record HasEvaluated (n : Parts) (w : Work) (e : Evaluated) (new : MainLane) : Type 0 where
-  pub may : may_start n w Main ≡ Some e.cell
-  pub eval : e.eval ≡ w.started + 1
-  pub along : (p : List Passed) × ((path n e.cell ≡ Some p) × ShowsAlong p e.shown)
-  pub tracks : Tracks n (once_stored n w e) new
+-- the work after the job's start, with its sweep
+abbrev pub once_begun : Parts → Work → PlainJob → Work
+once_begun n w job = swept n (begun n Main job.eval job.cell w)
 
--- the same; where no cell may start nothing was changed
-abbrev pub HasTried : Parts → Work → MainLane → Option Evaluated → Type 0
-HasTried n w new None = (may_start n w Main ≡ None) × Tracks n w new
-HasTried n w new (Some e) = HasEvaluated n w e new
-
--- the cell of the mark at a place
-abbrev pub cell_of : Parts → Option Mark → Option Cell
-cell_of n None = None
-cell_of n (Some m) = found m.cell (cells n)
-
-abbrev pub found_at : Parts → List Mark → ℕ → Option Cell
-found_at n ms at = cell_of n (slice_get ms at)
-
--- the cell of the next place in the notebook
-abbrev pub IsNext : Parts → List Mark → ℕ → Cell → Type 0
-IsNext n ms at c = IsPlaceOfNext ms (Some at) × (found_at n ms at ≡ Some c)
-
--- an evaluation of the cell that may start was handed out, under the next number
+-- the cell that may start was handed out along its present path, under the next number, and runs
 pub record HasStarted (n : Parts) (w : Work) (job : PlainJob) (new : MainLane) : Type 0 where
   pub may : may_start n w Main ≡ Some job.cell
   pub eval : job.eval ≡ w.started + 1
-  pub handed : IsHandedOut new job
-  pub tracks : Tracks n (swept n (begun n Main job.eval job.cell w)) new
+  pub along : (p : List Passed) × ((path n job.cell ≡ Some p) × IsAlong p job)
+  pub out : IsOut (once_begun n w job) job
+  pub tracks : Tracks n (once_begun n w job) new
 
 -- the same; where no cell may start nothing was changed
-abbrev pub HasTriedStart : Parts → Work → MainLane → Option PlainJob → Type 0
-HasTriedStart n w new None = (may_start n w Main ≡ None) × Tracks n w new
-HasTriedStart n w new (Some job) = HasStarted n w job new
+abbrev pub HasTried : Parts → Work → MainLane → Option PlainJob → Type 0
+HasTried n w new None = (may_start n w Main ≡ None) × Tracks n w new
+HasTried n w new (Some job) = HasStarted n w job new
 
--- the answer of the running evaluation was kept; it shows what one thread gives along the path that was read
-pub record HasFinished (n : Parts) (w : Work) (job : PlainJob) (ran : Ran) (new : MainLane) : Type 0 where
+-- the running evaluation of the number was answered: what it showed is what one thread shows along the path that it read, and was stored
+pub record HasFinished (n : Parts) (w : Work) (eval : ℕ) (shown : Shown) (new : MainLane) : Type 0 where
   pub running : Running
-  pub runs : running_eval w job.eval ≡ Some running
-  pub along : ShowsAlong running.path ran.shown
-  pub tracks : Tracks n (swept n (stored ran.shown w (running_eval w job.eval))) new
+  pub runs : running_eval w eval ≡ Some running
+  pub right : ShowsAlong running.path shown
+  pub tracks : Tracks n (swept n (stored shown w (running_eval w eval))) new
