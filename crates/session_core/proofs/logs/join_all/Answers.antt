@@ -19,7 +19,7 @@ returns-in-Err-clause-err c = λ s cs out a h.
     let t = once_joined c.args.client s in
     let o = opened (IsLiveIn s) t s c.loop-at.at cs c.loop-at.logs c.index-logs-at.result a (c.loop-at.invariant s cs out a h) (omega arith) c.index-logs-at.is in
     let k = subst (IsCellLog s o.cell) c.index-logs-at.is o.holds in
-    c.leave_first.ensures s cs out a (o.stay _ (record { cell = k.cell; log = c.in-Err.ensures.err s o.cell.id o.cell.source k.log }))
+    c.leave_first.ensures.logs s cs out a (o.stay _ (record { cell = k.cell; log = c.in-Err.ensures.err s o.cell.id o.cell.source k.log }))
 
 pub returns-clause-ok : goal.returns-clause-ok
 returns-clause-ok c = λ s cs out a h.
