@@ -1,9 +1,9 @@
 -- The logs of a notebook's cells, one after the other.
-use Rattle.std.proofs.Common.{◌≡◌, ℕ, ◌+◌, ◌<◌, ◌≤◌, ◌==◌, Bool, true, false, if◌then◌else◌, List, [], ◌∷◌, ◌++◌, length, take, map, Option, Some, None, zero, suc, refl, sym, ap, subst, ◌∙◌, arith}
+use Rattle.std.proofs.Common.{◌≡◌, ℕ, ◌+◌, ◌-◌, ◌<◌, ◌≤◌, ◌==◌, Bool, true, false, if◌then◌else◌, List, [], ◌∷◌, ◌++◌, length, take, map, Option, Some, None, zero, suc, refl, sym, ap, subst, ◌∙◌, arith}
 use Rattle.std.proofs.Common.{set, get_or}
 use Rattle.std.specs.Prelude.{filter, not, IsSome}
 use Rattle.std.specs.List.{AllByRecursion, flat_map}
-use Rattle.std.proofs.lemmas.List.{take_more, append-nil}
+use Rattle.std.proofs.lemmas.List.{take_more, append-nil, length-append}
 use Rattle.std.proofs.lemmas.List.Concat.{flat_map-append}
 use Rattle.notebook.specs.declared.parts.Cell.{Cell}
 use Rattle.notebook.specs.declared.parts.Section.{Section}
@@ -15,6 +15,17 @@ use Rattle.session_ops.specs.Snapshot.{revisions_of}
 use Rattle.revisions.specs.Stands.{StandsFor}
 use Rattle.session_core.specs.Logs.{IsCellLog, AreLogs, AreLogsPast}
 use Rattle.session_core.specs.declared.logs.CellLog.{CellLog}
+
+take-front : {X : Type 0} (xs ys : List X) → take (length xs) (xs ++ ys) ≡ xs
+take-front [] ys = refl
+take-front (x ∷ xs) ys = ap (λ zs. x ∷ zs) (take-front xs ys)
+
+-- what was put at the end and taken off again leaves the list
+pub popped : {X : Type 0} (xs ys zs : List X) (x : X) (n : ℕ) → ys ≡ xs ++ x ∷ [] → length ys ≡ n → zs ≡ take (n - 1) ys → zs ≡ xs
+popped xs ys zs x n put len cut =
+    let all : length ys ≡ length xs + 1 = ap length put ∙ length-append xs (x ∷ []) in
+    let less : n - 1 ≡ length xs = omega (arith, len, all) in
+    cut ∙ (ap (λ k. take k ys) less ∙ (ap (take (length xs)) put ∙ take-front xs (x ∷ [])))
 
 -- one log more
 pub logs-more : (s : State) (cs : List Cell) (ls : List CellLog) (c : Cell) (l : CellLog) → AreLogs s cs ls → IsCellLog s c l → AreLogs s (cs ++ c ∷ []) (ls ++ l ∷ [])

@@ -58,7 +58,8 @@ impl Session {
         requires { IsUnbranched book }
         ensures { IfOk result (λ s. IsSession book s × (history_of s ≡ [])) }
     {
-        let logs = first_logs(alloc, book.parts())?;
+        let parts = book.parts();
+        let logs = first_logs(alloc, parts)?;
         let lane = MainLane::new(alloc, &book)?;
         Ok(Session {
             alloc,
