@@ -42,27 +42,52 @@ pub record Placed (s : State) (cell at : ℕ) (cs : List Cell) (ls : List CellLo
   pub number : owner.id ≡ cell
   pub holds : IsCellLog s owner l
   pub within : at < length ls
+  pub put : (l' : CellLog) → IsCellLog s owner l' → AreLogs s cs (set ls at l')
 
-placed-of : (s : State) (cell at : ℕ) (c : Cell) (cs : List Cell) (x : CellLog) (ls : List CellLog) (l : CellLog) (b : Bool) (o : Option ℕ) → (x.cell == cell) ≡ b → place_in cell ls ≡ o → IsCellLog s c x → Some at ≡ (if b then Some 0 else later 1 o) → l ≡ get_or (x ∷ ls) at l
+placed-of : (s : State) (cell at : ℕ) (c : Cell) (cs : List Cell) (x : CellLog) (ls : List CellLog) (l : CellLog) (b : Bool) (o : Option ℕ) → (x.cell == cell) ≡ b → place_in cell ls ≡ o → IsCellLog s c x → AreLogs s cs ls → Some at ≡ (if b then Some 0 else later 1 o) → l ≡ get_or (x ∷ ls) at l
     → ((k : ℕ) → Some k ≡ place_in cell ls → l ≡ get_or ls k l → Placed s cell k cs ls l) → Placed s cell at (c ∷ cs) (x ∷ ls) l
-placed-of s cell at c cs x ls l true o t eo h e is more =
+placed-of s cell at c cs x ls l true o t eo h rest e is more =
     let z : at ≡ 0 = cc e in
     let same : l ≡ x = subst (λ k. l ≡ get_or (x ∷ ls) k l) z is in
     let number : c.id ≡ cell = sym h.cell ∙ grind (arith, nat_tests, t) in
     let here : (c.id == cell) ≡ true = grind (arith, nat_tests, number) in
-    record { owner = c; is_found = ap (λ b. if b then Some c else found cell cs) here; number = number; holds = subst (IsCellLog s c) (sym same) h; within = omega (arith, z) }
-placed-of s cell at c cs x ls l false None t eo h e is more = absurd (cc e)
-placed-of s cell at c cs x ls l false (Some k) t eo h e is more =
+    record { owner = c; is_found = ap (λ b. if b then Some c else found cell cs) here; number = number; holds = subst (IsCellLog s c) (sym same) h; within = omega (arith, z); put = λ l' k. subst (λ j. AreLogs s (c ∷ cs) (set (x ∷ ls) j l')) (sym z) (k, rest) }
+placed-of s cell at c cs x ls l false None t eo h rest e is more = absurd (cc e)
+placed-of s cell at c cs x ls l false (Some k) t eo h rest e is more =
     let z' : at ≡ 1 + k = cc e in
     let z : at ≡ suc k = omega (arith, z') in
     let p : Placed s cell k cs ls l = more k (sym eo) (subst (λ j. l ≡ get_or (x ∷ ls) j l) z is) in
     let here : (c.id == cell) ≡ false = subst (λ n. (n == cell) ≡ false) h.cell t in
-    record { owner = p.owner; is_found = ap (λ b. if b then Some c else found cell cs) here ∙ p.is_found; number = p.number; holds = p.holds; within = omega (arith, z, p.within) }
+    record { owner = p.owner; is_found = ap (λ b. if b then Some c else found cell cs) here ∙ p.is_found; number = p.number; holds = p.holds; within = omega (arith, z, p.within); put = λ l' k'. subst (λ j. AreLogs s (c ∷ cs) (set (x ∷ ls) j l')) (sym z) (h, p.put l' k') }
 
 pub placed : (s : State) (cell at : ℕ) (cs : List Cell) (ls : List CellLog) (l : CellLog) → AreLogs s cs ls → Some at ≡ place_in cell ls → l ≡ get_or ls at l → Placed s cell at cs ls l
 placed s cell at cs [] l h e is = absurd (cc e)
 placed s cell at [] (x ∷ ls) l h e is = absurd h
-placed s cell at (c ∷ cs) (x ∷ ls) l h e is = placed-of s cell at c cs x ls l (x.cell == cell) (place_in cell ls) refl refl h.0 e is (λ k ek ik. placed s cell k cs ls l h.1 ek ik)
+placed s cell at (c ∷ cs) (x ∷ ls) l h e is = placed-of s cell at c cs x ls l (x.cell == cell) (place_in cell ls) refl refl h.0 h.1 e is (λ k ek ik. placed s cell k cs ls l h.1 ek ik)
+
+-- the owner is the cell that is found
+owner-of : (a b : Cell) (o : Option Cell) → o ≡ Some a → o ≡ Some b → a ≡ b
+owner-of a b o e f = let same : Some a ≡ Some b = sym e ∙ f in cc same
+
+-- the log of the cell that is found, and another one in its place
+pub record Own (s : State) (cell at : ℕ) (c : Cell) (cs : List Cell) (ls : List CellLog) (l : CellLog) : Type 0 where
+  pub number : c.id ≡ cell
+  pub named : l.cell ≡ cell
+  pub stands : StandsFor s cell c.source l.log
+  pub put : (l' : CellLog) → l'.cell ≡ cell → StandsFor s cell c.source l'.log → AreLogs s cs (set ls at l')
+
+pub own : (s : State) (cell at : ℕ) (c : Cell) (cs : List Cell) (ls : List CellLog) (l : CellLog) → AreLogs s cs ls → Some at ≡ place_in cell ls → l ≡ get_or ls at l → found cell cs ≡ Some c → Own s cell at c cs ls l
+own s cell at c cs ls l h e is f =
+    let p : Placed s cell at cs ls l = placed s cell at cs ls l h e is in
+    let same : p.owner ≡ c = owner-of p.owner c (found cell cs) p.is_found f in
+    let holds : IsCellLog s c l = subst (λ o. IsCellLog s o l) same p.holds in
+    let number : c.id ≡ cell = subst (λ o. o.id ≡ cell) same p.number in
+    record {
+      number = number;
+      named = holds.cell ∙ number;
+      stands = subst (λ n. StandsFor s n c.source l.log) number holds.log;
+      put = λ l' named k. p.put l' (subst (λ o. IsCellLog s o l') (sym same) (record { cell = named ∙ sym number; log = subst (λ n. StandsFor s n c.source l'.log) (sym number) k }));
+    }
 
 later-none : (o : Option ℕ) → None ≡ later 1 o → None ≡ o
 later-none None e = refl
