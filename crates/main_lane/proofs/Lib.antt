@@ -1,1 +1,16 @@
-mod Stub
+pub mod Small
+pub mod Holding
+pub mod Writing
+pub mod Places
+pub mod Judged
+pub mod Running
+pub mod Next
+pub mod Calls
+pub mod Sweeping
+pub mod Queueing
+pub mod Ready
+pub mod Paths
+pub mod Walking
+pub mod Editing
+pub mod Starting
+pub mod Finishing
