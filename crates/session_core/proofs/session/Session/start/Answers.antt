@@ -19,8 +19,7 @@ returns-in_err-push-clause-err c = λ n0 is. on-err _ _ (untouched n0 c.args.sel
 pub returns-in-Ok-clause-ok : goal.returns-in-Ok-clause-ok
 returns-in-Ok-clause-ok c = λ n0 is.
     let s = c.args.self.now in
-    let next : c.in-Some-checked_add.eval ≡ c.started.result + 1 = search arith in
-    tried-session n0 s _ c.args.by c.in-Some-checked_add.eval c.in-Some.cell c.in-Ok.job is c.in-Some.ensures (λ n w t. next ∙ ap (λ k. k + 1) (c.started.ensures n w t)) c.in-Ok.ensures c.in_ok-push.ensures.items refl refl refl
+    tried-session n0 s _ c.args.by (c.started-eval.result + 1) c.in-Some.cell c.in-Ok.job is c.in-Some.ensures (λ n w t. ap (λ k. k + 1) (c.started-eval.ensures.count n w t)) c.in-Ok.ensures c.in_ok-push.ensures.items refl refl refl
 
 pub returns-in-Err-clause-err : goal.returns-in-Err-clause-err
 returns-in-Err-clause-err c = λ n0 is.
