@@ -25,7 +25,7 @@ use Rattle.revisions.specs.declared.source_log.SourceLog.{SourceLog}
 use Rattle.revisions.specs.Floors.{floors_of, at_zero, lowest, raised, is_of_other}
 use Rattle.revisions.specs.Kept.{deltas_of, made_by, LeadsTo, HaveLens}
 use Rattle.revisions.specs.Moved.{IsMove, IsMoveCause}
-use Rattle.revisions.specs.Stands.{Holds, IsLog, StandsFor, IsTaken, IsWithin, IsCause, IsRefused, knowing, without}
+use Rattle.revisions.specs.Stands.{Holds, IsLog, StandsFor, IsMoved, IsTaken, IsWithin, IsCause, knowing, without}
 use Rattle.revisions.proofs.Lowest.{lowest-le, lowest-rises, lowest-joined, lowest-left, least-same, knowing-floors, knowing-low, zero-floors, left-floors, joined-floors, joined-low}
 use Rattle.revisions.proofs.Chains.{taken-more, deltas-drop, deltas-more, made-take, leads-from, leads-more, lens-from, lens-more}
 
@@ -208,21 +208,21 @@ low-base s cell base text log h low = omega (arith, low, h.log_of.holds.rev)
 pub least-of : (s : State) (cell : ℕ) (text : List ℕ) (log : SourceLog) → StandsFor s cell text log → log.least ≡ least s cell
 least-of s cell text log h = h.log_of.lowest ∙ least-same s cell s.joined h.known
 
-pub refused-new : (s : State) (cell base : ℕ) (d : List Step) (c : Cell) (log : SourceLog) → StandsFor s cell c.source log → log.rev < base → IsRefused s cell c base d (TooNew log.rev) log
+pub refused-new : (s : State) (cell base : ℕ) (d : List Step) (c : Cell) (log : SourceLog) → StandsFor s cell c.source log → log.rev < base → IsCause s cell c base d (TooNew log.rev)
 refused-new s cell base d c log h up =
     let rev : log.rev ≡ revision s cell = h.log_of.holds.rev in
     let new : nat_lt (revision s cell) base ≡ true = grind (arith, nat_tests, rev) in
     let reply : delta_reply s cell base d (Some c) ≡ Refused (refusal.TooNew (revision s cell)) = rw new refl in
-    record { cause = reply ∙ ap (λ k. Refused (refusal.TooNew k)) (sym rev); after = h }
+    reply ∙ ap (λ k. Refused (refusal.TooNew k)) (sym rev)
 
-pub refused-old : (s : State) (cell base : ℕ) (d : List Step) (c : Cell) (log : SourceLog) → StandsFor s cell c.source log → base ≤ log.rev → base < log.least → IsRefused s cell c base d (TooOld log.least) log
+pub refused-old : (s : State) (cell base : ℕ) (d : List Step) (c : Cell) (log : SourceLog) → StandsFor s cell c.source log → base ≤ log.rev → base < log.least → IsCause s cell c base d (TooOld log.least)
 refused-old s cell base d c log h low up =
     let low' : base ≤ revision s cell = low-base s cell base c.source log h low in
     let kept : log.least ≡ least s cell = least-of s cell c.source log h in
     let new : nat_lt (revision s cell) base ≡ false = grind (arith, nat_tests) in
     let old : nat_lt base (least s cell) ≡ true = grind (arith, nat_tests, kept) in
     let reply : delta_reply s cell base d (Some c) ≡ Refused (refusal.TooOld (least s cell)) = rw (new, old) refl in
-    record { cause = reply ∙ ap (λ k. Refused (refusal.TooOld k)) (sym kept); after = h }
+    reply ∙ ap (λ k. Refused (refusal.TooOld k)) (sym kept)
 
 moved-cause : (s : State) (cell base : ℕ) (d : List Step) (c : Cell) (e : RevError) → base ≤ revision s cell → least s cell ≤ base
     → IsMoveCause d (over d (drop base (taken_by cell s.taken))) (made_by (take base (taken_by cell s.taken)) (first_source cell s.began)) c.source e → IsCause s cell c base d e
@@ -233,10 +233,10 @@ moved-cause s cell base d c (SplitsPair at) low up h = moved-reply s cell base d
 moved-cause s cell base d c OutOfMemory low up h = record { not_new = low; not_old = up; reach = h }
 
 -- a delta that was moved and doesn't fit, or for which memory was refused
-pub refused-moved : (s : State) (cell base : ℕ) (d : List Step) (c : Cell) (log new : SourceLog) (e : RevError) → StandsFor s cell c.source log → base ≤ log.rev → log.least ≤ base
+pub refused-moved : (s : State) (cell base : ℕ) (d : List Step) (c : Cell) (log : SourceLog) (e : RevError) → StandsFor s cell c.source log → base ≤ log.rev → log.least ≤ base
     → ((t : List ℕ) → HaveLens t (drop (base - log.least) log.kept.items) → LeadsTo t (deltas_of (drop (base - log.least) log.kept.items)) log.text → IsMoveCause d (over d (deltas_of (drop (base - log.least) log.kept.items))) t log.text e)
-    → StandsFor s cell c.source new → IsRefused s cell c base d e new
-refused-moved s cell base d c log new e h low up f after =
+    → IsCause s cell c base d e
+refused-moved s cell base d c log e h low up f =
     let xs : List (List Step) = taken_by cell s.taken in
     let first : List ℕ = first_source cell s.began in
     let q = since first xs (floors_of cell s.known s.joined) c.source log base h.log_of.holds up in
@@ -244,7 +244,7 @@ refused-moved s cell base d c log new e h low up f after =
     let cause = f (made_by (take base xs) first) q.lens (subst (λ a. LeadsTo (made_by (take base xs) first) (deltas_of (drop (base - log.least) log.kept.items)) a) (sym now) q.leads) in
     let cause' : IsMoveCause d (over d (drop base xs)) (made_by (take base xs) first) c.source e =
     subst (λ a. IsMoveCause d (over d (drop base xs)) (made_by (take base xs) first) a e) now (subst (λ ys. IsMoveCause d (over d ys) (made_by (take base xs) first) log.text e) q.deltas cause) in
-    record { cause = moved-cause s cell base d c e (low-base s cell base c.source log h low) (omega (arith, up, least-of s cell c.source log h)) cause'; after = after }
+    moved-cause s cell base d c e (low-base s cell base c.source log h low) (omega (arith, up, least-of s cell c.source log h)) cause'
 
 -- what the code moves is what the session moves
 pub record Moves (s : State) (cell base : ℕ) (d : List Step) (c : Cell) (m : Move) : Type 0 where
@@ -268,24 +268,27 @@ moves s cell base d c log m h low up f =
       within = record { not_new = low-base s cell base c.source log h low; not_old = omega (arith, up, least-of s cell c.source log h); reach = both.1 };
     }
 
-pub refused-memory : (s : State) (cell base : ℕ) (d : List Step) (c : Cell) (log new : SourceLog) (m : Move) → StandsFor s cell c.source log → Moves s cell base d c m
-    → IsLog (first_source cell s.began) (taken_by cell s.taken) (floors_of cell s.known s.joined) c.source new → IsRefused s cell c base d OutOfMemory new
-refused-memory s cell base d c log new m h q is = record { cause = q.within; after = record { log_of = is; known = h.known } }
+-- so it is what the session would answer with
+pub moved-so : (s : State) (cell base : ℕ) (d : List Step) (c : Cell) (m : Move) → Moves s cell base d c m → IsMoved s cell c base d m
+moved-so s cell base d c m q =
+    let y : List Step = over d (drop base (taken_by cell s.taken)) in
+    record {
+      answered = moved-reply s cell base d c q.within.not_new q.within.not_old ∙ (ap (judged_by (revision s cell) y) q.move.none ∙ ap (Applied (revision s cell + 1)) (sym q.move.moved));
+      moves = q.own;
+      within = q.within;
+    }
 
-pub taken-moved : (s : State) (cell client base : ℕ) (d : List Step) (c : Cell) (log new : SourceLog) (m : Move) (a : Accepted) → StandsFor s cell c.source log → Moves s cell base d c m
+pub taken-moved : (s : State) (cell client base : ℕ) (d : List Step) (c : Cell) (log new : SourceLog) (m : Move) (a : Accepted) → StandsFor s cell c.source log → IsMoved s cell c base d m
     → a.rev ≡ revision s cell + 1 → a.delta ≡ m.delta → IsLog (first_source cell s.began) (taken_by cell s.taken ++ m.delta ∷ []) (raised client (revision s cell + 1) (floors_of cell s.known s.joined)) m.text new
     → IsTaken s cell c client base d a new
 taken-moved s cell client base d c log new m a h q r x is =
-    let y : List Step = over d (drop base (taken_by cell s.taken)) in
     let first : List ℕ = first_source cell s.began in
     let xs : List (List Step) = taken_by cell s.taken in
     let floors : List Floor = floors_of cell s.known s.joined in
-    let whole : a.delta ≡ y = x ∙ q.move.moved in
-    let text : m.text ≡ text_after a.delta c.source = q.own.makes ∙ ap (λ w. text_after w c.source) (sym x) in
-    let reply : delta_reply s cell base d (Some c) ≡ Applied (revision s cell + 1) y = moved-reply s cell base d c q.within.not_new q.within.not_old ∙ ap (judged_by (revision s cell) y) q.move.none in
+    let text : m.text ≡ text_after a.delta c.source = q.moves.makes ∙ ap (λ w. text_after w c.source) (sym x) in
     let is' : IsLog first (xs ++ a.delta ∷ []) (raised client a.rev floors) (text_after a.delta c.source) new =
     subst (λ t. IsLog first (xs ++ a.delta ∷ []) (raised client a.rev floors) t new) text (subst (λ w. IsLog first (xs ++ w ∷ []) (raised client a.rev floors) m.text new) (sym x) (subst (λ k. IsLog first (xs ++ m.delta ∷ []) (raised client k floors) m.text new) (sym r) is)) in
     record {
-      answered = reply ∙ (ap (λ k. Applied k y) (sym r) ∙ ap (Applied a.rev) (sym whole));
+      answered = q.answered ∙ (ap (λ k. Applied k m.delta) (sym r) ∙ ap (Applied a.rev) (sym x));
       after = stands-more s cell (text_after a.delta c.source) new client a.rev a.delta r h.known is' (after_call s (Client client (Delta cell base d)) (Applied a.rev a.delta)) refl refl refl refl;
     }

@@ -1,5 +1,5 @@
 -- What a source log holds of a session's state.
-use Rattle.std.specs.Prelude.{◌≡◌, ◌≤◌, ◌<◌, ℕ, List, [], ◌∷◌, ◌++◌, length, take, drop, filter, Some}
+use Rattle.std.specs.Prelude.{◌≡◌, ◌≤◌, ◌<◌, ◌+◌, ℕ, List, [], ◌∷◌, ◌++◌, length, take, drop, filter, Some}
 use Rattle.utf16_text.specs.Units.{unit_count}
 use Rattle.delta.specs.declared.Step.{Step}
 use Rattle.delta.specs.Steps.{reach_of}
@@ -18,7 +18,9 @@ use Rattle.revisions.specs.declared.errors.ReportError.TheVariants as report_err
 use Rattle.revisions.specs.declared.floors.Floor.{Floor}
 use Rattle.revisions.specs.declared.source_log.Accepted.{Accepted}
 use Rattle.revisions.specs.declared.source_log.SourceLog.{SourceLog}
+use Rattle.revisions.specs.declared.kept.Move.{Move}
 use Rattle.revisions.specs.Floors.{floors_of, lowest}
+use Rattle.revisions.specs.Moved.{IsMove}
 use Rattle.revisions.specs.Kept.{deltas_of, made_by, LeadsTo, HaveLens}
 
 -- the log of a source that began so, took these deltas and is this text now: it keeps just those deltas that come after its least revision
@@ -58,6 +60,12 @@ pub record IsWithin (s : State) (cell base : ℕ) (d : List Step) : Type 0 where
   pub not_new : base ≤ revision s cell
   pub not_old : least s cell ≤ base
   pub reach : reach_of d ≤ unit_count (made_by (take base (taken_by cell s.taken)) (first_source cell s.began))
+
+-- what the delta becomes at the present revision: the session would answer with it, it fits the cell's text, and this is the text that it makes
+pub record IsMoved (s : State) (cell : ℕ) (c : Cell) (base : ℕ) (d : List Step) (m : Move) : Type 0 where
+  pub answered : delta_reply s cell base d (Some c) ≡ Applied (revision s cell + 1) m.delta
+  pub moves : IsMove m.delta c.source m
+  pub within : IsWithin s cell base d
 
 -- the session answers so, too; memory is wanted only for a delta that is moved
 abbrev pub IsCause : State → ℕ → Cell → ℕ → List Step → RevError → Type 0

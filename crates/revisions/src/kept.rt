@@ -23,9 +23,9 @@ pub(crate) struct Kept {
 
 /// A delta that was moved to the present text, and the text that it makes of it.
 #[derive(Drop)]
-pub(crate) struct Move {
-    pub(crate) delta: Delta,
-    pub(crate) text: Text,
+pub struct Move {
+    pub delta: Delta,
+    pub text: Text,
 }
 
 /// `delta`, which was made before the kept delta at the place `from`, moved to the present text and

@@ -21,4 +21,5 @@ mod source_log;
 mod tests;
 
 pub use errors::{ReportError, RevError};
+pub use kept::Move;
 pub use source_log::{Accepted, SourceLog};

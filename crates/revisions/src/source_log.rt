@@ -12,7 +12,7 @@ ghost use Rattle.session_ops.specs.State.{State, first_source, taken_by, revisio
 ghost use Rattle.revisions.specs.declared.floors.Floor.{Floor};
 ghost use Rattle.revisions.specs.Floors.{lowest, raised};
 ghost use Rattle.revisions.specs.Moved.{IsMove};
-ghost use Rattle.revisions.specs.Stands.{Holds, IsLog, StandsFor, IsTaken, IsRefused, IsReportCause, knowing, without};
+ghost use Rattle.revisions.specs.Stands.{Holds, IsLog, StandsFor, IsMoved, IsTaken, IsCause, IsRefused, IsReportCause, knowing, without};
 
 use crate::errors::{ReportError, RevError};
 use crate::floors::{Floor, floors_at_zero, lowest, raise, remove_floor};
@@ -96,14 +96,7 @@ impl SourceLog {
             (λ a. IsTaken s cell c client base delta.now a self.new)
             (λ e. IsRefused s cell c base delta.now e self.new) }
     {
-        if base > self.rev {
-            return Err(RevError::TooNew { now: self.rev });
-        }
-        if base < self.least {
-            return Err(RevError::TooOld { kept: self.least });
-        }
-        let from = (base - self.least) as usize;
-        let moved = match move_on(alloc, delta, &self.kept, from, &self.text) {
+        let moved = match self.moved(alloc, base, delta) {
             Ok(moved) => moved,
             Err(fault) => return Err(fault),
         };
@@ -113,8 +106,47 @@ impl SourceLog {
         }
     }
 
+    /// A client's delta, which was made at the revision `base`, moved over the deltas that were taken
+    /// since, which go first in a tie, and the text that it would make. Nothing is changed. It answers
+    /// the same errors as [`accept`](SourceLog::accept).
+    pub fn moved(&self, alloc: Global, base: u64, delta: &Delta) -> Result<Move, RevError>
+        ensures { (s : State) (cell : ℕ) (c : Cell) → StandsFor s cell c.source self.now → MatchResult result
+            (IsMoved s cell c base delta.now)
+            (IsCause s cell c base delta.now) }
+    {
+        if base > self.rev {
+            return Err(RevError::TooNew { now: self.rev });
+        }
+        if base < self.least {
+            return Err(RevError::TooOld { kept: self.least });
+        }
+        let from = (base - self.least) as usize;
+        match move_on(alloc, delta, &self.kept, from, &self.text) {
+            Ok(moved) => Ok(moved),
+            Err(fault) => Err(fault),
+        }
+    }
+
+    /// Takes a client's delta as [`moved`](SourceLog::moved) made it of the present text. The client's
+    /// floor is then the new revision. After want of memory the log is as it was.
+    pub fn take(
+        &mut self,
+        alloc: Global,
+        client: u32,
+        moved: Move,
+    ) -> Result<Accepted, AllocError>
+        ensures { (s : State) (cell : ℕ) (c : Cell) (base : ℕ) (d : List Step) → StandsFor s cell c.source self.old → IsMoved s cell c base d moved → MatchResult result
+            (λ a. IsTaken s cell c client base d a self.new)
+            (λ _. StandsFor s cell c.source self.new) }
+    {
+        match self.keep(alloc, client, moved) {
+            Ok(accepted) => Ok(accepted),
+            Err(fault) => Err(fault),
+        }
+    }
+
     /// Takes a delta that fits the present text, with the text that it makes.
-    fn take(&mut self, alloc: Global, client: u32, moved: Move) -> Result<Accepted, AllocError>
+    fn keep(&mut self, alloc: Global, client: u32, moved: Move) -> Result<Accepted, AllocError>
         ensures { (first : List ℕ) (taken : List (List Step)) (floors : List Floor) (text : List ℕ) → IsLog first taken floors text self.old → IsMove moved.delta text moved → MatchResult result
             (λ a. (a.rev ≡ length taken + 1) × (a.delta ≡ moved.delta) × IsLog first (taken ++ moved.delta ∷ []) (raised client (length taken + 1) floors) moved.text self.new)
             (λ _. IsLog first taken floors text self.new) }

@@ -6,6 +6,7 @@
 //! the one entry that it names, with the reply of the definitions.
 #![tactic(auto)]
 
+mod clients;
 mod logs;
 mod session;
 
