@@ -18,7 +18,8 @@ use Rattle.session_ops.specs.declared.entry.Entry.{Entry}
 use Rattle.session_ops.specs.Work.{is_in}
 use Rattle.session_ops.specs.State.{State, Misfit, state, revision, misfit}
 use Rattle.client_sync.specs.Client.{Client, Pending, Edited, Done, NoCell, EditTooLong, Unfit, pending_of, after_buffer, with_pending, own_source, delivered, held, edited, edited_cell, with_fitting, with_edit, buffered}
-use Rattle.world.specs.Waiting.{messages_for, HasSource, FitsHere, IsKept, IsHonest}
+use Rattle.client_sync.specs.Fits.{HasSource, FitsHere}
+use Rattle.world.specs.Waiting.{messages_for, IsKept, IsHonest}
 use Rattle.world.proofs.Moving.{cells-resourced, found-with, found-number, one-source, fits-from}
 use Rattle.world.proofs.Keeping.{kept-ops}
 use Rattle.world.proofs.Pendings.{pending-added, pending-beside, messages-append, message-beside}

@@ -21,7 +21,8 @@ use Rattle.session_ops.specs.State.{State, Known, state, state_from, opening, af
 use Rattle.session_ops.proofs.Lists.{all-append}
 use Rattle.client_sync.specs.Client.{Client, Pending}
 use Rattle.world.specs.Applied.{applied_by, applied_in, is_own, is_own_call, HasNoOwn, text_after_each}
-use Rattle.world.specs.Waiting.{Message, messages_for, HasSource, FitsHere, IsPosted, IsWaiting, IsReturning, IsQuiet, IsKept, IsHonest}
+use Rattle.client_sync.specs.Fits.{HasSource, FitsHere}
+use Rattle.world.specs.Waiting.{Message, messages_for, IsPosted, IsWaiting, IsReturning, IsQuiet, IsKept, IsHonest}
 use Rattle.world.proofs.Moving.{from-more, after-taken, after-source, grown-revision, over-append}
 
 -- an entry that is not the client's own, and tells nothing of it, as one cell sees it
@@ -84,7 +85,7 @@ posted-next s e k m i p =
 own-true : (n k base rev : ℕ) (d x : List Step) → is_own_call n k (ByClient n (Delta k base d)) (Applied rev x) ≡ true
 own-true n k base rev d x = grind (arith, nat_tests)
 
-own-entry : (n k base rev : ℕ) (d x : List Step) (e : Entry) → e.call ≡ ByClient n (Delta k base d) → e.reply ≡ Applied rev x → is_own n k e ≡ true
+pub own-entry : (n k base rev : ℕ) (d x : List Step) (e : Entry) → e.call ≡ ByClient n (Delta k base d) → e.reply ≡ Applied rev x → is_own n k e ≡ true
 own-entry n k base rev d x e call answer = ap (λ c. is_own_call n k c e.reply) call ∙ (ap (is_own_call n k (ByClient n (Delta k base d))) answer ∙ own-true n k base rev d x)
 
 first-of : (x y : Entry) (xs ys : List Entry) → x ∷ xs ≡ y ∷ ys → (x ≡ y) × (xs ≡ ys)

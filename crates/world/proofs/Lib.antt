@@ -4,6 +4,7 @@ pub mod Heard
 pub mod Honest
 pub mod Keeping
 pub mod Moving
+pub mod Next
 pub mod Pendings
 pub mod Receiving
 pub mod Standing

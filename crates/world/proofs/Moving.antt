@@ -27,7 +27,7 @@ use Rattle.session_ops.specs.State.{State, Job, Taken, Known, Legal, opening, st
 use Rattle.session_ops.specs.Work.{is_in}
 use Rattle.session_ops.proofs.Lists.{all-append, all-weaker}
 use Rattle.world.specs.Applied.{applied_by, applied_in, text_after_each, FitInTurn}
-use Rattle.world.specs.Waiting.{HasSource}
+use Rattle.client_sync.specs.Fits.{HasSource}
 
 -- a delta fits a text where nothing keeps it from it
 split-none : (o : Option ℕ) → split_misfit o ≡ None → o ≡ None

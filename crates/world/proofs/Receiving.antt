@@ -19,7 +19,8 @@ use Rattle.session_ops.specs.declared.entry.Entry.{Entry}
 use Rattle.session_ops.specs.State.{State, state, state_from, after, taken_by, revision, floor, reply, misfit}
 use Rattle.client_sync.specs.Client.{Client, Pending, pending_of, all_moved, without, with_own, with_call, reposted}
 use Rattle.world.specs.Applied.{applied_by, is_own, is_own_call, HasNoOwn, text_after_each}
-use Rattle.world.specs.Waiting.{Message, messages_for, HasSource, FitsHere, IsPosted, IsWaiting, IsReturning, IsQuiet, IsKept}
+use Rattle.client_sync.specs.Fits.{HasSource, FitsHere}
+use Rattle.world.specs.Waiting.{Message, messages_for, IsPosted, IsWaiting, IsReturning, IsQuiet, IsKept}
 use Rattle.world.proofs.Moving.{IsTaken, applied-taken, one-source, fits-from, after-source, grown-revision}
 use Rattle.world.proofs.Keeping.{IsOwnBack, own-back, not-quiet, kept-passed, kept-moved, kept-ops, shifted_option}
 use Rattle.world.proofs.Pendings.{shifted-same, shifted-other, without-same, without-other, pending-added, pending-beside, messages-append, message-here, message-beside}

@@ -23,7 +23,8 @@ use Rattle.session_ops.specs.State.{State, Job, Known, after, after_call, state_
 use Rattle.session_ops.specs.Work.{is_in}
 use Rattle.client_sync.specs.Client.{Pending}
 use Rattle.world.specs.Applied.{applied_in, is_own, is_own_call, HasNoOwn, text_after_each}
-use Rattle.world.specs.Waiting.{Message, messages_for, HasSource, FitsHere, IsPosted, IsWaiting, IsReturning, IsQuiet, IsKept}
+use Rattle.client_sync.specs.Fits.{HasSource, FitsHere}
+use Rattle.world.specs.Waiting.{Message, messages_for, IsPosted, IsWaiting, IsReturning, IsQuiet, IsKept}
 use Rattle.world.proofs.Moving.{from-more, from-taken, from-source, from-fits, over-fits, over-append, misfit-from, least-within}
 use Rattle.world.proofs.Keeping.{IsOthers, kept-more, kept-ops}
 use Rattle.world.proofs.Pendings.{message-here, message-beside}
