@@ -221,7 +221,7 @@ own-number : (c : Client) (cell rev : ℕ) (o : Option Pending) → (with_own c 
 own-number c cell rev None = refl
 own-number c cell rev (Some p) = reposted-number c cell rev p.buffer
 
-call-number : (c : Client) (call : Call) (answer : Reply) → (with_call c call answer).number ≡ c.number
+pub call-number : (c : Client) (call : Call) (answer : Reply) → (with_call c call answer).number ≡ c.number
 call-number c (ByClient n (Delta cell base d)) (Applied rev x) =
     elim (n == c.number)
     as (λ b. (if b then with_own c cell rev (pending_of cell c.pending) else record c { pending = all_moved cell x c.pending }).number ≡ c.number)
@@ -268,7 +268,7 @@ held-honest w n (Some c) act e whole honest f =
     let is : IsHonest w.opening w.history c × ((c.number ≡ n) × (is_in n (map number_of w.clients) ≡ true)) = client-is (IsHonest w.opening w.history) n w.clients c honest e in
     f c is.0 (rw (is.1.0, whole.joined) is.1.1)
 
-event-honest : (w : World) (e : Event) → IsWhole w → AreHonest w → AreHonest (happens w e)
+pub event-honest : (w : World) (e : Event) → IsWhole w → AreHonest w → AreHonest (happens w e)
 event-honest w (Join n) whole honest = join-honest w n whole honest
 event-honest w (Edit n cell d) whole honest = held-honest w n (client_of n w.clients) (λ c. with_edited w (edited w.opening c cell d)) refl whole honest (λ c is member. edit-honest w c cell d (edited w.opening c cell d) honest is refl)
 event-honest w (Post n op) whole honest = held-honest w n (client_of n w.clients) (λ c. posted w c op) refl whole honest (λ c is member. post-honest w c op honest is)
