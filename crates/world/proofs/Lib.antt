@@ -10,6 +10,7 @@ pub mod Next
 pub mod Pendings
 pub mod Playing
 pub mod Receiving
+pub mod Sample
 pub mod Standing
 pub mod Taking
 pub mod Texts

@@ -10,3 +10,6 @@ mod world;
 
 pub use event::Event;
 pub use world::{World, run};
+
+#[cfg(test)]
+mod tests;
