@@ -8,10 +8,9 @@ use Rattle.session_ops.specs.declared.entry.Op.{Op}
 use Rattle.session_ops.specs.declared.entry.Op.TheVariants.{Join as Joins, Delta, Queue}
 use Rattle.session_ops.specs.declared.entry.Call.TheVariants.{Client as ByClient}
 use Rattle.session_ops.specs.declared.entry.Refusal.TheVariants.{AlreadyJoined}
-use Rattle.session_ops.specs.declared.entry.Reply.{Reply}
 use Rattle.session_ops.specs.declared.entry.Reply.TheVariants.{Accepted, Refused}
 use Rattle.session_ops.specs.declared.entry.Entry.{Entry}
-use Rattle.session_ops.specs.State.{state, reply}
+use Rattle.session_ops.specs.State.{state}
 use Rattle.session_ops.specs.Work.{is_in}
 use Rattle.session_ops.proofs.Members.{in-append}
 use Rattle.client_sync.specs.Client.{Client, Edited, Done, NoCell, EditTooLong, Unfit, edited, received_entry, joined_client, with_message, client_of}
@@ -19,7 +18,6 @@ use Rattle.world.specs.declared.event.Event.{Event}
 use Rattle.world.specs.declared.event.Event.TheVariants.{Join, Edit, Post, Take, Receive}
 use Rattle.world.specs.World.{World, first_world, called, with_client, with_joined, with_edited, posted, taken, delivered_next, if_held, happens, after_events, run}
 use Rattle.world.specs.Claims.{IsWhole, number_of}
-use Rattle.world.specs.Waiting.{AreHonest}
 use Rattle.world.specs.Plays.{AreApart, IsSound}
 use Rattle.world.proofs.Clients.{put-numbers}
 use Rattle.world.proofs.Standing.{event-whole}

@@ -1,5 +1,5 @@
 -- What a step leaves in memory stands for what its event makes of the world.
-use Rattle.std.proofs.Common.{◌≡◌, ℕ, ◌+◌, ◌<◌, ◌==◌, true, false, if◌then◌else◌, List, [], ◌∷◌, ◌++◌, length, take, drop, set, get_or, map, Option, Some, None, refl, sym, ap, subst, ◌∙◌, add-one, drop-cons, arith, length-append}
+use Rattle.std.proofs.Common.{◌≡◌, ℕ, ◌+◌, ◌<◌, true, false, if◌then◌else◌, List, [], ◌∷◌, ◌++◌, length, take, drop, set, get_or, map, Option, Some, None, refl, sym, ap, subst, ◌∙◌, add-one, drop-cons, arith, length-append}
 use Rattle.std.specs.Prelude.{nat_lt}
 use Rattle.std.specs.List.{AllByRecursion}
 use Rattle.std.proofs.Math.Seq.{take-append_seam}
@@ -10,21 +10,21 @@ use Rattle.notebook.specs.declared.parts.Cell.{Cell}
 use Rattle.notebook.specs.declared.parts.Parts.{Parts}
 use Rattle.notebook.specs.Book.{cells, found}
 use Rattle.session_ops.specs.declared.entry.Op.{Op}
-use Rattle.session_ops.specs.declared.entry.Op.TheVariants.{Join as Joins, Delta, Queue}
+use Rattle.session_ops.specs.declared.entry.Op.TheVariants.{Queue}
 use Rattle.session_ops.specs.declared.entry.Call.{Call}
 use Rattle.session_ops.specs.declared.entry.Call.TheVariants.{Client as ByClient}
 use Rattle.session_ops.specs.declared.entry.Reply.{Reply}
 use Rattle.session_ops.specs.declared.entry.Entry.{Entry}
 use Rattle.session_ops.specs.State.{Misfit, misfit, state, reply, revision}
-use Rattle.client_sync.specs.Client.{Client as Holder, Pending, Edited, Done, NoCell, EditTooLong, Unfit, delivered, held, edited, edited_cell, with_fitting, with_edit, pending_of, received_entry, joined_client, with_message, client_of, put_client}
+use Rattle.client_sync.specs.Client.{Client as Holder, Pending, Edited, Done, NoCell, EditTooLong, Unfit, delivered, held, edited, edited_cell, with_fitting, with_edit, pending_of, received_entry, joined_client, with_message, client_of}
 use Rattle.client_sync.specs.declared.client.Client.{Client}
 use Rattle.client_sync.specs.Stands.{Mirrors, IsNextEntry}
 use Rattle.session_core.specs.Session.{IsSession, HasAnswered, history_of, entry_of}
 use Rattle.world.specs.declared.event.Event.{Event}
-use Rattle.world.specs.declared.event.Event.TheVariants.{Join, Edit, Post, Take, Receive}
+use Rattle.world.specs.declared.event.Event.TheVariants.{Edit, Post, Take, Receive}
 use Rattle.world.specs.declared.world.World.{World}
-use Rattle.world.specs.World.{World as Course, called, with_client, with_joined, with_edited, posted, taken, delivered_next, if_held, happens, after_events, run}
-use Rattle.world.specs.Claims.{IsBehind, IsWhole, number_of}
+use Rattle.world.specs.World.{World as Course, called, with_client, with_edited, posted, taken, delivered_next, if_held, happens, after_events, run}
+use Rattle.world.specs.Claims.{IsBehind, number_of}
 use Rattle.world.specs.Waiting.{IsHonest}
 use Rattle.world.specs.Plays.{AreMirrors, AreApart, Plays, IsHolderAt, IsSound, IsRun, HoldsFront, DoHold, edited_or_same, received_first}
 use Rattle.world.proofs.Clients.{client-is}

@@ -1,5 +1,5 @@
 -- The notebook of the tests keeps the rules.
-use Rattle.std.proofs.Common.{◌≡◌, ◌≢◌, ℕ, ◌+◌, ◌≤◌, List, [], ◌∷◌, ◌++◌, length, map, None, Contains, sym, ◌∙◌, ap, subst, arith, lit<, lit≤}
+use Rattle.std.proofs.Common.{◌≡◌, ◌≢◌, ℕ, ◌+◌, ◌≤◌, [], ◌∷◌, ◌++◌, length, map, None, Contains, sym, ◌∙◌, ap, subst, arith, lit<, lit≤}
 use Rattle.std.specs.List.{AllByRecursion, flat_map}
 use Rattle.std.proofs.lemmas.Map.Made.{Contains-tail}
 use Rattle.notebook.specs.declared.parts.Cell.{Cell}

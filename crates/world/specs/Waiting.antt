@@ -2,10 +2,8 @@
 use Rattle.std.specs.Prelude.{◌≡◌, ◌⊎◌, ℕ, ◌+◌, ◌≤◌, ◌==◌, if◌then◌else◌, true, List, [], ◌∷◌, ◌++◌, length, drop, Option, Some, None}
 use Rattle.std.specs.List.{AllByRecursion}
 use Rattle.delta.specs.declared.Step.{Step}
-use Rattle.delta.specs.Moves.{FitsText, text_after, over}
-use Rattle.notebook.specs.declared.parts.Cell.{Cell}
+use Rattle.delta.specs.Moves.{over}
 use Rattle.notebook.specs.declared.parts.Parts.{Parts}
-use Rattle.notebook.specs.Book.{cells, found}
 use Rattle.session_ops.specs.declared.entry.Op.{Op}
 use Rattle.session_ops.specs.declared.entry.Op.TheVariants.{Join, Delta, Queue}
 use Rattle.session_ops.specs.declared.entry.Call.TheVariants.{Client as ByClient}

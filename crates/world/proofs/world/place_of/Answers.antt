@@ -1,4 +1,4 @@
-use Rattle.std.proofs.Common.{◌≡◌, ◌∙◌, sym, subst}
+use Rattle.std.proofs.Common.{◌∙◌, sym}
 use Rattle.world.proofs.Mirroring.{first-at, nobody-more, nobody-at-all}
 use Rattle.world.proofs.world.place_of.Goals as goal
 

@@ -1,4 +1,4 @@
-use Rattle.std.proofs.Common.{◌≡◌, ℕ, List, take, None}
+use Rattle.std.proofs.Common.{◌≡◌, List, take, None}
 use Rattle.notebook.specs.declared.parts.Parts.{Parts}
 use Rattle.client_sync.specs.Client.{Client as Holder, client_of}
 use Rattle.world.specs.Plays.{AreMirrors}

@@ -1,4 +1,4 @@
-use Rattle.std.proofs.Common.{◌≡◌, ◌∙◌, take, subst, ap, length, ◌≤◌, arith}
+use Rattle.std.proofs.Common.{◌∙◌, take, subst, length, ◌≤◌}
 use Rattle.std.proofs.lemmas.List.{take_all}
 use Rattle.world.specs.World.{run}
 use Rattle.world.specs.Plays.{Plays}

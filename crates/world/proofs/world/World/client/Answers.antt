@@ -1,4 +1,4 @@
-use Rattle.std.proofs.Common.{◌≡◌, sym, subst, Some}
+use Rattle.std.proofs.Common.{sym, subst, Some}
 use Rattle.world.specs.Plays.{IsHeldBy, IsHolderAt}
 use Rattle.world.proofs.Mirroring.{client-at, mirror-at}
 use Rattle.world.proofs.Playing.{holder-at}

@@ -1,4 +1,4 @@
-use Rattle.std.proofs.Common.{refl, subst, Some, None}
+use Rattle.std.proofs.Common.{refl, Some, None}
 use Rattle.std.specs.Vec.{with_item}
 use Rattle.session_ops.specs.declared.entry.Call.TheVariants.{Client as ByClient}
 use Rattle.session_core.specs.Session.{HasAnswered}
