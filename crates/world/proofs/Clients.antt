@@ -1,5 +1,5 @@
 -- Clients in a list by their numbers, and what leaves what a client has received.
-use Rattle.std.proofs.Common.{◌≡◌, ℕ, ◌==◌, Bool, true, false, if◌then◌else◌, List, [], ◌∷◌, ◌++◌, map, Option, Some, None, refl, sym, ap, subst, ◌∙◌}
+use Rattle.std.proofs.Common.{◌≡◌, ℕ, ◌==◌, true, false, if◌then◌else◌, List, [], ◌∷◌, ◌++◌, map, Option, Some, None, refl, sym, ap, subst}
 use Rattle.std.specs.Prelude.{nat_lt}
 use Rattle.std.specs.List.{AllByRecursion}
 use Rattle.std.proofs.lemmas.Bool.{eqb-true}
@@ -16,7 +16,6 @@ use Rattle.session_ops.specs.declared.entry.Reply.TheVariants.{Applied}
 use Rattle.session_ops.specs.declared.entry.Entry.{Entry}
 use Rattle.session_ops.specs.State.{Misfit, misfit, revision}
 use Rattle.session_ops.specs.Work.{is_in}
-use Rattle.session_ops.proofs.Members.{in-here, in-later}
 use Rattle.client_sync.specs.Client.{Client, Pending, Edited, Done, NoCell, EditTooLong, Unfit, delivered, held, edited, edited_cell, with_fitting, with_edit, pending_of, all_moved, with_own, with_call, reposted, received_entry, client_of, put_client}
 use Rattle.world.specs.Claims.{number_of}
 

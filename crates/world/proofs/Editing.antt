@@ -1,5 +1,5 @@
 -- A client that edits goes on standing as it should.
-use Rattle.std.proofs.Common.{◌≡◌, ℕ, ◌==◌, Bool, true, false, if◌then◌else◌, List, [], ◌∷◌, ◌++◌, Option, Some, None, refl, sym, ap, subst, ◌∙◌, arith, inl, inr}
+use Rattle.std.proofs.Common.{◌≡◌, ℕ, ◌==◌, true, false, if◌then◌else◌, List, [], ◌∷◌, ◌++◌, Option, Some, None, refl, sym, ap, subst, ◌∙◌, arith}
 use Rattle.std.specs.Prelude.{nat_lt}
 use Rattle.std.proofs.lemmas.Bool.{eqb-true}
 use Rattle.std.proofs.lemmas.Bool.Decides.{nat_tests}
@@ -7,7 +7,6 @@ use Rattle.std.proofs.lemmas.List.{append-nil}
 use Rattle.delta.specs.declared.Step.{Step}
 use Rattle.delta.specs.Steps.{inserted_by}
 use Rattle.delta.specs.Moves.{FitsText, text_after, composed}
-use Rattle.delta_laws.specs.Laws.{DeltaLaws}
 use Rattle.delta_laws.proofs.Laws.{delta_laws}
 use Rattle.notebook.specs.declared.parts.Cell.{Cell}
 use Rattle.notebook.specs.declared.parts.Parts.{Parts}
@@ -18,7 +17,8 @@ use Rattle.session_ops.specs.declared.entry.Entry.{Entry}
 use Rattle.session_ops.specs.Work.{is_in}
 use Rattle.session_ops.specs.State.{State, Misfit, state, revision, misfit}
 use Rattle.client_sync.specs.Client.{Client, Pending, Edited, Done, NoCell, EditTooLong, Unfit, pending_of, after_buffer, with_pending, own_source, delivered, held, edited, edited_cell, with_fitting, with_edit, buffered}
-use Rattle.world.specs.Waiting.{messages_for, HasSource, FitsHere, IsKept, IsHonest}
+use Rattle.client_sync.specs.Fits.{HasSource, FitsHere}
+use Rattle.world.specs.Waiting.{messages_for, IsKept, IsHonest}
 use Rattle.world.proofs.Moving.{cells-resourced, found-with, found-number, one-source, fits-from}
 use Rattle.world.proofs.Keeping.{kept-ops}
 use Rattle.world.proofs.Pendings.{pending-added, pending-beside, messages-append, message-beside}

@@ -17,7 +17,6 @@ use Rattle.session_ops.specs.declared.entry.Reply.{Reply}
 use Rattle.session_ops.specs.declared.entry.Reply.TheVariants.{Accepted, Applied, Started, Stored, Late, Refused}
 use Rattle.session_ops.specs.State.{State, Misfit, Past, Splits, state, reply, delta_reply, judged_by, queue_reply, queue_reply_by, kind_reply, revision, least, taken_by, misfit}
 use Rattle.session_ops.specs.Work.{is_in, failed_ancestor}
-use Rattle.client_sync.specs.Client.{Client, client_of}
 use Rattle.world.specs.World.{World, run}
 use Rattle.world.specs.Claims.{IsBehind, IsWhole, AreHeard, number_of}
 use Rattle.world.proofs.Clients.{client-is}

@@ -1,7 +1,7 @@
 -- All clients go on standing as they should, with each event.
-use Rattle.std.proofs.Common.{◌≡◌, ℕ, ◌+◌, ◌==◌, Bool, true, false, if◌then◌else◌, List, [], ◌∷◌, ◌++◌, length, drop, map, Option, Some, None, refl, sym, ap, subst, ◌∙◌, arith, append_assoc}
+use Rattle.std.proofs.Common.{◌≡◌, ℕ, ◌+◌, ◌==◌, true, false, if◌then◌else◌, List, [], ◌∷◌, ◌++◌, length, drop, map, Option, Some, None, refl, sym, ap, subst, ◌∙◌, arith, append_assoc}
 use Rattle.std.specs.List.{AllByRecursion}
-use Rattle.std.proofs.lemmas.Bool.{eqb-true, or_right}
+use Rattle.std.proofs.lemmas.Bool.{or_right}
 use Rattle.std.proofs.lemmas.Bool.Decides.{nat_tests}
 use Rattle.std.proofs.lemmas.List.{append-nil}
 use Rattle.delta.specs.declared.Step.{Step}
@@ -17,7 +17,7 @@ use Rattle.session_ops.specs.declared.entry.Refusal.TheVariants.{AlreadyJoined}
 use Rattle.session_ops.specs.declared.entry.Reply.{Reply}
 use Rattle.session_ops.specs.declared.entry.Reply.TheVariants.{Accepted, Applied, Started, Stored, Refused}
 use Rattle.session_ops.specs.declared.entry.Entry.{Entry}
-use Rattle.session_ops.specs.State.{State, Job, state, state_from, opening, after, after_call, reply, revision, taken_by, floor, HasReplies, Legal, jobs_from}
+use Rattle.session_ops.specs.State.{State, state, state_from, opening, after, after_call, reply, revision, taken_by, floor, HasReplies, Legal, jobs_from}
 use Rattle.session_ops.specs.Work.{is_in}
 use Rattle.session_ops.proofs.Growing.{state-append}
 use Rattle.session_ops.proofs.Lists.{all-append, in-more}
@@ -26,7 +26,7 @@ use Rattle.client_sync.specs.Client.{Client, Pending, Edited, Done, NoCell, Edit
 use Rattle.world.specs.declared.event.Event.{Event}
 use Rattle.world.specs.declared.event.Event.TheVariants.{Join, Edit, Post, Take, Receive}
 use Rattle.world.specs.World.{World, first_world, next_entry, called, with_client, with_joined, with_edited, posted, taken, delivered_next, if_held, happens, after_events, run}
-use Rattle.world.specs.Claims.{IsBehind, IsWhole, number_of}
+use Rattle.world.specs.Claims.{IsWhole, number_of}
 use Rattle.world.specs.Applied.{is_own_call}
 use Rattle.world.specs.Waiting.{messages_for, IsKept, IsHonest, AreHonest, AreApplied}
 use Rattle.world.proofs.Clients.{put-all, client-is, received-seen}
@@ -34,7 +34,7 @@ use Rattle.world.proofs.Standing.{event-whole, call-legal, rest-after, run-whole
 use Rattle.world.proofs.Moving.{from-more, rest-replies, floor-within}
 use Rattle.world.proofs.Keeping.{IsOthers, kept-more, kept-ops}
 use Rattle.world.proofs.Pendings.{messages-append}
-use Rattle.world.proofs.Receiving.{IsEntry, call-received}
+use Rattle.world.proofs.Receiving.{call-received}
 use Rattle.world.proofs.Editing.{edited-honest}
 use Rattle.world.proofs.Taking.{IsFront, front-of, front-reply, stranger-call, plain-queue, start-call, respond-call, taken-kept}
 
@@ -221,7 +221,7 @@ own-number : (c : Client) (cell rev : ℕ) (o : Option Pending) → (with_own c 
 own-number c cell rev None = refl
 own-number c cell rev (Some p) = reposted-number c cell rev p.buffer
 
-call-number : (c : Client) (call : Call) (answer : Reply) → (with_call c call answer).number ≡ c.number
+pub call-number : (c : Client) (call : Call) (answer : Reply) → (with_call c call answer).number ≡ c.number
 call-number c (ByClient n (Delta cell base d)) (Applied rev x) =
     elim (n == c.number)
     as (λ b. (if b then with_own c cell rev (pending_of cell c.pending) else record c { pending = all_moved cell x c.pending }).number ≡ c.number)
@@ -268,7 +268,7 @@ held-honest w n (Some c) act e whole honest f =
     let is : IsHonest w.opening w.history c × ((c.number ≡ n) × (is_in n (map number_of w.clients) ≡ true)) = client-is (IsHonest w.opening w.history) n w.clients c honest e in
     f c is.0 (rw (is.1.0, whole.joined) is.1.1)
 
-event-honest : (w : World) (e : Event) → IsWhole w → AreHonest w → AreHonest (happens w e)
+pub event-honest : (w : World) (e : Event) → IsWhole w → AreHonest w → AreHonest (happens w e)
 event-honest w (Join n) whole honest = join-honest w n whole honest
 event-honest w (Edit n cell d) whole honest = held-honest w n (client_of n w.clients) (λ c. with_edited w (edited w.opening c cell d)) refl whole honest (λ c is member. edit-honest w c cell d (edited w.opening c cell d) honest is refl)
 event-honest w (Post n op) whole honest = held-honest w n (client_of n w.clients) (λ c. posted w c op) refl whole honest (λ c is member. post-honest w c op honest is)

@@ -1,27 +1,22 @@
 -- A client goes on standing to the history as it should, cell by cell: when others call, and when it receives.
-use Rattle.std.proofs.Common.{◌≡◌, ◌≢◌, ℕ, ◌+◌, ◌≤◌, ◌==◌, Bool, true, false, if◌then◌else◌, List, [], ◌∷◌, ◌++◌, length, drop, Option, Some, None, refl, sym, ap, subst, ◌∙◌, arith, append_assoc, inl, inr}
-use Rattle.std.specs.Prelude.{◌⊎◌, ◌&&◌, max}
-use Rattle.std.specs.List.{AllByRecursion}
-use Rattle.std.proofs.lemmas.Bool.{eqb-true, and_left, and_right}
+use Rattle.std.proofs.Common.{◌≡◌, ℕ, ◌+◌, ◌≤◌, true, false, List, [], ◌∷◌, ◌++◌, length, drop, Option, Some, None, refl, sym, ap, subst, ◌∙◌, arith, append_assoc, inl, inr}
 use Rattle.std.proofs.lemmas.Bool.Decides.{nat_tests}
-use Rattle.std.proofs.lemmas.List.{append-nil, length-append, drop-append-le}
+use Rattle.std.proofs.lemmas.List.{length-append, drop-append-le}
 use Rattle.delta.specs.declared.Step.{Step}
 use Rattle.delta.specs.Moves.{FitsText, text_after, transformed, over}
-use Rattle.delta_laws.specs.Laws.{IsPairMoved, DeltaLaws}
+use Rattle.delta_laws.specs.Laws.{IsPairMoved}
 use Rattle.delta_laws.proofs.Laws.{delta_laws}
-use Rattle.notebook.specs.declared.parts.Parts.{Parts}
 use Rattle.session_ops.specs.declared.entry.Op.{Op}
-use Rattle.session_ops.specs.declared.entry.Op.TheVariants.{Join, Delta, Queue}
-use Rattle.session_ops.specs.declared.entry.Call.{Call}
+use Rattle.session_ops.specs.declared.entry.Op.TheVariants.{Delta}
 use Rattle.session_ops.specs.declared.entry.Call.TheVariants.{Client as ByClient}
-use Rattle.session_ops.specs.declared.entry.Reply.{Reply}
 use Rattle.session_ops.specs.declared.entry.Reply.TheVariants.{Applied}
 use Rattle.session_ops.specs.declared.entry.Entry.{Entry}
-use Rattle.session_ops.specs.State.{State, Known, state, state_from, opening, after, taken_by, revision, floor}
+use Rattle.session_ops.specs.State.{State, state_from, after, taken_by, revision, floor}
 use Rattle.session_ops.proofs.Lists.{all-append}
-use Rattle.client_sync.specs.Client.{Client, Pending}
+use Rattle.client_sync.specs.Client.{Pending}
 use Rattle.world.specs.Applied.{applied_by, applied_in, is_own, is_own_call, HasNoOwn, text_after_each}
-use Rattle.world.specs.Waiting.{Message, messages_for, HasSource, FitsHere, IsPosted, IsWaiting, IsReturning, IsQuiet, IsKept, IsHonest}
+use Rattle.client_sync.specs.Fits.{HasSource, FitsHere}
+use Rattle.world.specs.Waiting.{Message, messages_for, IsPosted, IsWaiting, IsReturning, IsQuiet, IsKept}
 use Rattle.world.proofs.Moving.{from-more, after-taken, after-source, grown-revision, over-append}
 
 -- an entry that is not the client's own, and tells nothing of it, as one cell sees it
@@ -84,7 +79,7 @@ posted-next s e k m i p =
 own-true : (n k base rev : ℕ) (d x : List Step) → is_own_call n k (ByClient n (Delta k base d)) (Applied rev x) ≡ true
 own-true n k base rev d x = grind (arith, nat_tests)
 
-own-entry : (n k base rev : ℕ) (d x : List Step) (e : Entry) → e.call ≡ ByClient n (Delta k base d) → e.reply ≡ Applied rev x → is_own n k e ≡ true
+pub own-entry : (n k base rev : ℕ) (d x : List Step) (e : Entry) → e.call ≡ ByClient n (Delta k base d) → e.reply ≡ Applied rev x → is_own n k e ≡ true
 own-entry n k base rev d x e call answer = ap (λ c. is_own_call n k c e.reply) call ∙ (ap (is_own_call n k (ByClient n (Delta k base d))) answer ∙ own-true n k base rev d x)
 
 first-of : (x y : Entry) (xs ys : List Entry) → x ∷ xs ≡ y ∷ ys → (x ≡ y) × (xs ≡ ys)

@@ -1,6 +1,6 @@
 -- What entries make of a cell's source, its deltas and what is known of it.
-use Rattle.std.proofs.Common.{◌≡◌, ℕ, ◌+◌, ◌≤◌, ◌<◌, ◌==◌, Bool, true, false, if◌then◌else◌, List, [], ◌∷◌, ◌++◌, length, drop, map, Option, Some, None, refl, sym, ap, subst, ◌∙◌, arith, append_assoc}
-use Rattle.std.specs.Prelude.{◌&&◌, nat_lt, nat_le, max, min, find}
+use Rattle.std.proofs.Common.{◌≡◌, ℕ, ◌+◌, ◌≤◌, ◌==◌, Bool, true, false, if◌then◌else◌, List, [], ◌∷◌, ◌++◌, length, drop, Option, Some, None, refl, sym, ap, subst, ◌∙◌, arith, append_assoc}
+use Rattle.std.specs.Prelude.{◌&&◌, nat_lt, nat_le, max, min}
 use Rattle.std.specs.List.{AllByRecursion, flat_map}
 use Rattle.std.proofs.lemmas.Bool.{eqb-true, and_parts}
 use Rattle.std.proofs.lemmas.Bool.Decides.{nat_tests}
@@ -9,7 +9,6 @@ use Rattle.utf16_text.specs.Units.{unit_count}
 use Rattle.delta.specs.declared.Step.{Step}
 use Rattle.delta.specs.Steps.{reach_of, broken_cut}
 use Rattle.delta.specs.Moves.{FitsText, text_after, transformed, over}
-use Rattle.delta_laws.specs.Laws.{IsPairMoved, DeltaLaws}
 use Rattle.delta_laws.proofs.Laws.{delta_laws}
 use Rattle.notebook.specs.declared.parts.Cell.{Cell}
 use Rattle.notebook.specs.declared.parts.Section.{Section}
@@ -19,15 +18,14 @@ use Rattle.session_ops.specs.declared.entry.Op.TheVariants.{Join, Delta, Queue}
 use Rattle.session_ops.specs.declared.entry.Call.{Call}
 use Rattle.session_ops.specs.declared.entry.Call.TheVariants.{Client as ByClient, Start, Respond}
 use Rattle.session_ops.specs.declared.entry.Refusal.TheVariants.{NotJoined, TooNew, TooOld}
-use Rattle.session_ops.specs.declared.entry.Refusal.{Refusal}
 use Rattle.session_ops.specs.declared.entry.Reply.{Reply}
-use Rattle.session_ops.specs.declared.entry.Reply.TheVariants.{Accepted, Applied, Started, Stored, Late, Refused}
+use Rattle.session_ops.specs.declared.entry.Reply.TheVariants.{Accepted, Applied, Started, Stored, Refused}
 use Rattle.session_ops.specs.declared.entry.Entry.{Entry}
-use Rattle.session_ops.specs.State.{State, Job, Taken, Known, Legal, opening, state, jobs_from, floor, least_floor, least_among, knows_all, Misfit, Past, Splits, after, after_call, state_from, taken_by, revision, least, misfit, split_misfit, moved_source, reply, delta_reply, judged_by, refusal_of, HasReplies, jobs_after}
+use Rattle.session_ops.specs.State.{State, Job, Taken, Known, Legal, opening, state, jobs_from, floor, least_floor, least_among, knows_all, Misfit, Past, Splits, after, after_call, state_from, taken_by, revision, least, misfit, split_misfit, moved_source, reply, delta_reply, judged_by, HasReplies, jobs_after}
 use Rattle.session_ops.specs.Work.{is_in}
 use Rattle.session_ops.proofs.Lists.{all-append, all-weaker}
 use Rattle.world.specs.Applied.{applied_by, applied_in, text_after_each, FitInTurn}
-use Rattle.world.specs.Waiting.{HasSource}
+use Rattle.client_sync.specs.Fits.{HasSource}
 
 -- a delta fits a text where nothing keeps it from it
 split-none : (o : Option ℕ) → split_misfit o ≡ None → o ≡ None

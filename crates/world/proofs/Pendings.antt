@@ -1,11 +1,11 @@
 -- The pending edits of a client, and the messages in its outbox, by cells.
-use Rattle.std.proofs.Common.{◌≡◌, ℕ, ◌==◌, Bool, true, false, if◌then◌else◌, List, [], ◌∷◌, ◌++◌, Option, Some, None, refl, sym, ap, ◌∙◌, arith}
+use Rattle.std.proofs.Common.{◌≡◌, ℕ, ◌==◌, Bool, true, false, if◌then◌else◌, List, [], ◌∷◌, ◌++◌, Some, None, refl, sym, ap, ◌∙◌, arith}
 use Rattle.std.proofs.lemmas.Bool.Decides.{nat_tests}
 use Rattle.std.proofs.lemmas.Bool.{eq-eqb}
 use Rattle.delta.specs.declared.Step.{Step}
 use Rattle.session_ops.specs.declared.entry.Op.{Op}
 use Rattle.session_ops.specs.declared.entry.Op.TheVariants.{Join, Delta, Queue}
-use Rattle.client_sync.specs.Client.{Pending, pending_of, all_moved, moved, without}
+use Rattle.client_sync.specs.Client.{Pending, pending_of, all_moved, without}
 use Rattle.world.specs.Waiting.{Message, messages_for}
 use Rattle.world.proofs.Keeping.{shifted, shifted_option}
 

@@ -1,25 +1,23 @@
 -- A client that receives its next entry goes on standing as it should.
-use Rattle.std.proofs.Common.{◌≡◌, ℕ, ◌+◌, ◌≤◌, ◌==◌, Bool, true, false, if◌then◌else◌, List, [], ◌∷◌, ◌++◌, length, drop, Option, Some, None, refl, sym, ap, subst, ◌∙◌, arith, inl, inr}
-use Rattle.std.specs.Prelude.{◌⊎◌, ◌&&◌}
-use Rattle.std.proofs.lemmas.Bool.{eqb-true, eq-eqb, and_left, and_right}
-use Rattle.std.proofs.lemmas.Bool.Decides.{nat_tests}
+use Rattle.std.proofs.Common.{◌≡◌, ℕ, ◌+◌, ◌≤◌, ◌==◌, true, false, if◌then◌else◌, List, [], ◌∷◌, ◌++◌, length, Option, Some, None, refl, sym, ap, subst, ◌∙◌, arith, inl}
+use Rattle.std.specs.Prelude.{◌&&◌}
+use Rattle.std.proofs.lemmas.Bool.{eqb-true, and_left, and_right}
 use Rattle.std.proofs.lemmas.List.{append-nil, drop_all}
 use Rattle.delta.specs.declared.Step.{Step}
-use Rattle.delta.specs.Moves.{FitsText, text_after, transformed, over}
-use Rattle.delta_laws.specs.Laws.{DeltaLaws}
+use Rattle.delta.specs.Moves.{FitsText, text_after, over}
 use Rattle.delta_laws.proofs.Laws.{delta_laws}
-use Rattle.notebook.specs.Book.{cells, found}
 use Rattle.session_ops.specs.declared.entry.Op.{Op}
-use Rattle.session_ops.specs.declared.entry.Op.TheVariants.{Join, Delta, Queue}
+use Rattle.session_ops.specs.declared.entry.Op.TheVariants.{Delta}
 use Rattle.session_ops.specs.declared.entry.Call.{Call}
-use Rattle.session_ops.specs.declared.entry.Call.TheVariants.{Client as ByClient, Start, Respond}
+use Rattle.session_ops.specs.declared.entry.Call.TheVariants.{Client as ByClient}
 use Rattle.session_ops.specs.declared.entry.Reply.{Reply}
 use Rattle.session_ops.specs.declared.entry.Reply.TheVariants.{Applied}
 use Rattle.session_ops.specs.declared.entry.Entry.{Entry}
-use Rattle.session_ops.specs.State.{State, state, state_from, after, taken_by, revision, floor, reply, misfit}
+use Rattle.session_ops.specs.State.{State, state_from, after, taken_by, revision, floor, reply, misfit}
 use Rattle.client_sync.specs.Client.{Client, Pending, pending_of, all_moved, without, with_own, with_call, reposted}
-use Rattle.world.specs.Applied.{applied_by, is_own, is_own_call, HasNoOwn, text_after_each}
-use Rattle.world.specs.Waiting.{Message, messages_for, HasSource, FitsHere, IsPosted, IsWaiting, IsReturning, IsQuiet, IsKept}
+use Rattle.world.specs.Applied.{applied_by, is_own, is_own_call, text_after_each}
+use Rattle.client_sync.specs.Fits.{HasSource, FitsHere}
+use Rattle.world.specs.Waiting.{Message, messages_for, IsQuiet, IsKept}
 use Rattle.world.proofs.Moving.{IsTaken, applied-taken, one-source, fits-from, after-source, grown-revision}
 use Rattle.world.proofs.Keeping.{IsOwnBack, own-back, not-quiet, kept-passed, kept-moved, kept-ops, shifted_option}
 use Rattle.world.proofs.Pendings.{shifted-same, shifted-other, without-same, without-other, pending-added, pending-beside, messages-append, message-here, message-beside}

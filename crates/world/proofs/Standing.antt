@@ -1,5 +1,5 @@
 -- What holds of a world goes on to hold with each event.
-use Rattle.std.proofs.Common.{◌≡◌, ◌≢◌, ℕ, ◌+◌, suc, arith, Bool, true, false, if◌then◌else◌, List, [], ◌∷◌, ◌++◌, length, drop, map, Option, Some, None, refl, sym, ap, subst, ◌∙◌, append_assoc}
+use Rattle.std.proofs.Common.{◌≡◌, ℕ, ◌+◌, suc, arith, true, false, if◌then◌else◌, List, [], ◌∷◌, ◌++◌, length, drop, map, Option, Some, None, refl, sym, ap, subst, ◌∙◌, append_assoc}
 use Rattle.std.specs.List.{AllByRecursion}
 use Rattle.std.proofs.lemmas.List.{append-nil, map-append, length-append}
 use Rattle.delta.specs.declared.Step.{Step}
@@ -8,7 +8,7 @@ use Rattle.session_ops.specs.declared.entry.Op.{Op}
 use Rattle.session_ops.specs.declared.entry.Op.TheVariants.{Join as Joins, Delta, Queue}
 use Rattle.session_ops.specs.declared.entry.Call.{Call}
 use Rattle.session_ops.specs.declared.entry.Call.TheVariants.{Client as ByClient, Start, Respond}
-use Rattle.session_ops.specs.declared.entry.Refusal.TheVariants.{NotJoined, AlreadyJoined}
+use Rattle.session_ops.specs.declared.entry.Refusal.TheVariants.{AlreadyJoined}
 use Rattle.session_ops.specs.declared.entry.Reply.{Reply}
 use Rattle.session_ops.specs.declared.entry.Reply.TheVariants.{Accepted, Applied, Started, Stored, Late, Refused}
 use Rattle.session_ops.specs.declared.entry.Entry.{Entry}
@@ -16,7 +16,7 @@ use Rattle.session_ops.specs.State.{State, state, after_call, reply, Legal}
 use Rattle.session_ops.specs.Work.{is_in}
 use Rattle.session_ops.proofs.Growing.{state-append, legal-append}
 use Rattle.session_ops.proofs.Lists.{all-append, all-weaker}
-use Rattle.client_sync.specs.Client.{Client, Edited, Done, NoCell, EditTooLong, Unfit, edited, received_entry, joined_client, with_message, client_of, put_client}
+use Rattle.client_sync.specs.Client.{Client, Edited, Done, NoCell, EditTooLong, Unfit, edited, received_entry, joined_client, with_message, client_of}
 use Rattle.world.specs.declared.event.Event.{Event}
 use Rattle.world.specs.declared.event.Event.TheVariants.{Join, Edit, Post, Take, Receive}
 use Rattle.world.specs.World.{World, first_world, next_entry, called, with_client, with_joined, with_edited, posted, taken, delivered_next, if_held, happens, after_events, run}

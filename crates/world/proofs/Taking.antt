@@ -1,7 +1,6 @@
 -- The server's answer to the message at the front of an outbox, and how the clients stand after it.
-use Rattle.std.proofs.Common.{◌≡◌, ℕ, ◌+◌, ◌≤◌, ◌<◌, ◌==◌, Bool, true, false, if◌then◌else◌, List, [], ◌∷◌, ◌++◌, length, drop, Option, Some, None, refl, sym, ap, subst, ◌∙◌, arith, append_assoc, inl, inr}
-use Rattle.std.specs.Prelude.{◌⊎◌, ◌&&◌, nat_lt, max}
-use Rattle.std.specs.List.{AllByRecursion}
+use Rattle.std.proofs.Common.{◌≡◌, ℕ, ◌+◌, ◌≤◌, ◌==◌, true, false, if◌then◌else◌, List, [], ◌∷◌, ◌++◌, length, drop, Option, Some, None, refl, sym, ap, subst, ◌∙◌, arith, append_assoc, inl, inr}
+use Rattle.std.specs.Prelude.{◌&&◌, nat_lt, max}
 use Rattle.std.proofs.lemmas.Bool.{eqb-true, and_left, and_right}
 use Rattle.std.proofs.lemmas.Bool.Decides.{nat_tests}
 use Rattle.std.proofs.lemmas.List.{append-nil, length-append, drop-append-le}
@@ -13,17 +12,17 @@ use Rattle.notebook.specs.declared.states.Lane.{Lane}
 use Rattle.ex_model.specs.declared.ran.Shown.{Shown}
 use Rattle.session_ops.specs.declared.entry.Op.{Op}
 use Rattle.session_ops.specs.declared.entry.Op.TheVariants.{Join, Delta, Queue}
-use Rattle.session_ops.specs.declared.entry.Call.{Call}
 use Rattle.session_ops.specs.declared.entry.Call.TheVariants.{Client as ByClient, Start, Respond}
-use Rattle.session_ops.specs.declared.entry.Refusal.TheVariants.{NotJoined, AlreadyJoined, TooNew, TooOld}
+use Rattle.session_ops.specs.declared.entry.Refusal.TheVariants.{NotJoined, TooNew, TooOld}
 use Rattle.session_ops.specs.declared.entry.Reply.{Reply}
 use Rattle.session_ops.specs.declared.entry.Reply.TheVariants.{Accepted, Applied, Started, Stored, Refused}
 use Rattle.session_ops.specs.declared.entry.Entry.{Entry}
 use Rattle.session_ops.specs.State.{State, Job, Known, after, after_call, state_from, taken_by, revision, floor, least, reply, delta_reply, judged_by, misfit, knows_all, HasReplies}
 use Rattle.session_ops.specs.Work.{is_in}
 use Rattle.client_sync.specs.Client.{Pending}
-use Rattle.world.specs.Applied.{applied_in, is_own, is_own_call, HasNoOwn, text_after_each}
-use Rattle.world.specs.Waiting.{Message, messages_for, HasSource, FitsHere, IsPosted, IsWaiting, IsReturning, IsQuiet, IsKept}
+use Rattle.world.specs.Applied.{applied_in, is_own_call, HasNoOwn, text_after_each}
+use Rattle.client_sync.specs.Fits.{HasSource, FitsHere}
+use Rattle.world.specs.Waiting.{messages_for, IsPosted, IsKept}
 use Rattle.world.proofs.Moving.{from-more, from-taken, from-source, from-fits, over-fits, over-append, misfit-from, least-within}
 use Rattle.world.proofs.Keeping.{IsOthers, kept-more, kept-ops}
 use Rattle.world.proofs.Pendings.{message-here, message-beside}

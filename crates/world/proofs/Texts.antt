@@ -1,8 +1,8 @@
 -- What a client shows of a cell: its edits are seen at once, its own deltas coming back change nothing, and another's delta is done to it moved over all that is pending.
-use Rattle.std.proofs.Common.{◌≡◌, ℕ, true, false, List, [], ◌∷◌, Some, None, Option, refl, sym, ap, subst, ◌∙◌}
+use Rattle.std.proofs.Common.{◌≡◌, ℕ, true, false, List, [], ◌∷◌, Some, None, refl, sym, ap, subst, ◌∙◌}
 use Rattle.delta.specs.declared.Step.{Step}
 use Rattle.delta.specs.Moves.{FitsText, text_after, transformed, composed}
-use Rattle.delta_laws.specs.Laws.{IsPairMoved, DeltaLaws}
+use Rattle.delta_laws.specs.Laws.{IsPairMoved}
 use Rattle.delta_laws.proofs.Laws.{delta_laws}
 use Rattle.client_sync.specs.Client.{Pending, after_buffer, with_pending}
 use Rattle.world.proofs.Keeping.{shifted}

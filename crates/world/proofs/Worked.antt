@@ -6,7 +6,7 @@ use Rattle.notebook.specs.declared.parts.Parts.{Parts}
 use Rattle.notebook.specs.declared.parts.Kind.TheVariants.{Markdown}
 use Rattle.notebook.specs.Book.{untitled, cells}
 use Rattle.session_ops.specs.declared.entry.Op.TheVariants.{Queue}
-use Rattle.client_sync.specs.Client.{Client, held}
+use Rattle.client_sync.specs.Client.{held}
 use Rattle.world.specs.declared.event.Event.{Event}
 use Rattle.world.specs.declared.event.Event.TheVariants.{Join, Edit, Post, Take, Receive}
 use Rattle.world.specs.World.{World, run}

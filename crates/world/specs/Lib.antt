@@ -1,4 +1,5 @@
 pub mod Applied
 pub mod Claims
+pub mod Plays
 pub mod Waiting
 pub mod World

@@ -2,10 +2,8 @@
 use Rattle.std.specs.Prelude.{◌≡◌, ◌⊎◌, ℕ, ◌+◌, ◌≤◌, ◌==◌, if◌then◌else◌, true, List, [], ◌∷◌, ◌++◌, length, drop, Option, Some, None}
 use Rattle.std.specs.List.{AllByRecursion}
 use Rattle.delta.specs.declared.Step.{Step}
-use Rattle.delta.specs.Moves.{FitsText, text_after, over}
-use Rattle.notebook.specs.declared.parts.Cell.{Cell}
+use Rattle.delta.specs.Moves.{over}
 use Rattle.notebook.specs.declared.parts.Parts.{Parts}
-use Rattle.notebook.specs.Book.{cells, found}
 use Rattle.session_ops.specs.declared.entry.Op.{Op}
 use Rattle.session_ops.specs.declared.entry.Op.TheVariants.{Join, Delta, Queue}
 use Rattle.session_ops.specs.declared.entry.Call.TheVariants.{Client as ByClient}
@@ -14,6 +12,7 @@ use Rattle.session_ops.specs.declared.entry.Entry.{Entry}
 use Rattle.session_ops.specs.Work.{is_in}
 use Rattle.session_ops.specs.State.{State, state, state_from, taken_by, revision, floor, reply}
 use Rattle.client_sync.specs.Client.{Client, Pending, pending_of, client_of}
+use Rattle.client_sync.specs.Fits.{FitsHere}
 use Rattle.world.specs.World.{World}
 use Rattle.world.specs.Applied.{applied_in, HasNoOwn}
 
@@ -28,19 +27,6 @@ messages_for k [] = []
 messages_for k (Join ∷ ops) = messages_for k ops
 messages_for k (Delta cell base d ∷ ops) = if cell == k then record { base = base; delta = d } ∷ messages_for k ops else messages_for k ops
 messages_for k (Queue cell ∷ ops) = messages_for k ops
-
--- the live cell of a number has this source
-pub record HasSource (n : Parts) (k : ℕ) (t : List ℕ) : Type 0 where
-  pub own : Cell
-  pub there : found k (cells n) ≡ Some own
-  pub source : own.source ≡ t
-
--- the cell lives; what is in flight fits its source at the client's last delivery, and what is buffered fits what that gives
-pub record FitsHere (s : State) (k : ℕ) (p : Pending) : Type 0 where
-  pub source : List ℕ
-  pub there : HasSource s.book k source
-  pub flight : FitsText p.flight source
-  pub buffer : FitsText p.buffer (text_after p.flight source)
 
 -- what is in flight is what was posted, moved over the deltas applied after its base, up to that delivery
 pub record IsPosted (s : State) (k : ℕ) (m : Message) (flight : List Step) : Type 0 where

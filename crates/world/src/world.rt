@@ -1,0 +1,206 @@
+//! A session and its clients in memory, and what each event does to them.
+ghost use Rattle.std.specs.Prelude.{◌≡◌, ◌<◌, ℕ, List, [], ◌∷◌, ◌++◌, drop, length, None, Some, IfOk, IfSome, OnOk};
+ghost use Rattle.std.specs.Option.{option_copied};
+ghost use Rattle.notebook.specs.declared.parts.Parts.{Parts};
+ghost use Rattle.notebook.specs.Flow.{IsUnbranched};
+ghost use Rattle.session_ops.specs.declared.entry.Op.TheVariants.{Queue};
+ghost use Rattle.session_ops.specs.declared.entry.Entry.{Entry};
+ghost use Rattle.client_sync.specs.Client.{Client as Holder, edited, client_of, joined_client};
+ghost use Rattle.client_sync.specs.Stands.{Mirrors, IsNextEntry};
+ghost use Rattle.world.specs.World.{World as Course, first_world, happens, run, with_joined};
+ghost use Rattle.world.specs.Plays.{AreMirrors, Plays, IsHeldBy, IsPlaceOf, IsSound, IsRun, edited_or_same, received_first};
+ghost use Rattle.world.specs.declared.event.Event.TheVariants.{Join, Edit, Post, Take, Receive};
+
+use crate::event::Event;
+use client_sync::{Client, EditError};
+use delta::Delta;
+use notebook::{CellId, Notebook};
+use session_core::Session;
+use session_ops::{Entry, Op, Reply};
+use std::alloc::{AllocError, Global};
+
+/// A session, and the clients in the order of their joining.
+#[derive(Drop)]
+pub struct World {
+    session: Session,
+    clients: Vec<Client>,
+}
+
+/// What a list of events, one after the other, makes of a session that opens with a notebook without
+/// branches. An event that can't happen changes nothing: a client's where the number holds no client,
+/// a take from an empty outbox, a receipt past the history's end.
+pub fn run(alloc: Global, book: Notebook, events: Vec<Event>) -> Result<World, AllocError>
+    requires { IsUnbranched book }
+    ensures { IfOk result (IsRun book (run book events.items)) }
+{
+    let mut world = World::open(alloc, book)?;
+    for event in &events {
+        world.happen(alloc, event)?;
+    }
+    Ok(world)
+}
+
+impl World {
+    /// The session. Takes no memory.
+    pub fn session(&self) -> &Session
+        ensures { result.now ≡ self.now.session }
+    {
+        &self.session
+    }
+
+    /// The client of a number; `None` exactly where the number holds no client. Takes no memory.
+    pub fn client(&self, number: u32) -> Option<&Client>
+        ensures { (w : Course) → Plays w self.now → IsHeldBy w.opening (client_of number w.clients) (option_copied result) }
+    {
+        match place_of(&self.clients, number) {
+            None => None,
+            Some(place) => Some(&self.clients[place]),
+        }
+    }
+
+    /// A session without clients.
+    fn open(alloc: Global, book: Notebook) -> Result<World, AllocError>
+        requires { IsUnbranched book }
+        ensures { IfOk result (Plays (first_world book)) }
+    {
+        let session = Session::new(alloc, book)?;
+        Ok(World {
+            session,
+            clients: Vec::new(alloc),
+        })
+    }
+
+    /// Lets an event happen. Nothing is said of the world after want of memory.
+    fn happen(&mut self, alloc: Global, event: &Event) -> Result<(), AllocError>
+        ensures { (w : Course) → IsSound w → Plays w self.old → OnOk result (Plays (happens w event.now) self.new) }
+    {
+        match event {
+            Event::Join { client } => self.join(alloc, *client),
+            Event::Edit {
+                client,
+                cell,
+                delta,
+            } => self.edit(*client, *cell, delta),
+            Event::Post { client, op } => self.post(*client, op),
+            Event::Take { client } => self.take(*client),
+            Event::Receive { client } => self.receive(*client),
+        }
+    }
+
+    /// A number asks to join.
+    fn join(&mut self, alloc: Global, number: u32) -> Result<(), AllocError>
+        ensures { (w : Course) → Plays w self.old → OnOk result (Plays (happens w (Join number)) self.new) }
+    {
+        let reply = self.session.apply(0, number, Op::Join)?;
+        self.admit(alloc, number, &reply)
+    }
+
+    /// A number whose joining was accepted holds a client from then on.
+    fn admit(&mut self, alloc: Global, number: u32, reply: &Reply) -> Result<(), AllocError>
+        ensures { (w : Course) → Plays w self.old → OnOk result (Plays (with_joined w number reply.now) self.new) }
+    {
+        match reply {
+            Reply::Accepted => self.add(alloc, number),
+            _ => Ok(()),
+        }
+    }
+
+    /// A new client that has received all.
+    fn add(&mut self, alloc: Global, number: u32) -> Result<(), AllocError>
+        ensures { (w : Course) → Plays w self.old → OnOk result (Plays (record w { clients = w.clients ++ joined_client number w.history ∷ [] }) self.new) }
+    {
+        let snapshot = self.session.snapshot()?;
+        let client = Client::join(alloc, number, snapshot)?;
+        self.clients.push(client)?;
+        Ok(())
+    }
+
+    /// A number's client edits its own text of a cell.
+    fn edit(&mut self, number: u32, cell: CellId, delta: &Delta) -> Result<(), AllocError>
+        ensures { (w : Course) → IsSound w → Plays w self.old → OnOk result (Plays (happens w (Edit number cell delta.now)) self.new) }
+    {
+        match place_of(&self.clients, number) {
+            None => Ok(()),
+            Some(place) => edit_own(&mut self.clients[place], cell, delta),
+        }
+    }
+
+    /// A number's client posts a message, but for those that can't be posted.
+    fn post(&mut self, number: u32, op: &Op) -> Result<(), AllocError>
+        ensures { (w : Course) → IsSound w → Plays w self.old → OnOk result (Plays (happens w (Post number op.now)) self.new) }
+    {
+        match op {
+            Op::Join | Op::Delta { .. } => Ok(()),
+            Op::Queue { cell } => self.queue(number, *cell),
+        }
+    }
+
+    /// A number's client asks for a cell.
+    fn queue(&mut self, number: u32, cell: CellId) -> Result<(), AllocError>
+        ensures { (w : Course) → IsSound w → Plays w self.old → OnOk result (Plays (happens w (Post number (Queue cell))) self.new) }
+    {
+        match place_of(&self.clients, number) {
+            None => Ok(()),
+            Some(place) => self.clients[place].post(Op::Queue { cell }),
+        }
+    }
+
+    /// The session answers the message at the front of a client's outbox.
+    fn take(&mut self, number: u32) -> Result<(), AllocError>
+        ensures { (w : Course) → IsSound w → Plays w self.old → OnOk result (Plays (happens w (Take number)) self.new) }
+    {
+        match place_of(&self.clients, number) {
+            None => Ok(()),
+            Some(place) => match self.clients[place].take_front() {
+                None => Ok(()),
+                Some(op) => {
+                    self.session.apply(0, number, op)?;
+                    Ok(())
+                }
+            },
+        }
+    }
+
+    /// A number's client receives the next entry of the history.
+    fn receive(&mut self, number: u32) -> Result<(), AllocError>
+        ensures { (w : Course) → IsSound w → Plays w self.old → OnOk result (Plays (happens w (Receive number)) self.new) }
+    {
+        match place_of(&self.clients, number) {
+            None => Ok(()),
+            Some(place) => receive_next(&mut self.clients[place], self.session.history()),
+        }
+    }
+}
+
+/// The place of the client of a number.
+fn place_of(clients: &[Client], number: u32) -> Option<usize>
+    ensures place { (n0 : Parts) (ms : List Holder) → AreMirrors n0 clients.now ms → IsPlaceOf number ms result }
+    ensures within { IfSome result (λ place. place < length clients.now) }
+{
+    for (place, client) in clients.iter().enumerate() {
+        if client.number() == number {
+            return Some(place);
+        }
+    }
+    None
+}
+
+/// A client edits its own text of a cell; a refused edit leaves it as it was.
+fn edit_own(client: &mut Client, cell: CellId, delta: &Delta) -> Result<(), AllocError>
+    ensures { (n0 : Parts) (m : Holder) → Mirrors n0 client.old m → OnOk result (Mirrors n0 client.new (edited_or_same m (edited n0 m cell delta.now))) }
+{
+    match client.edit(cell, delta) {
+        Err(EditError::OutOfMemory) => Err(AllocError),
+        _ => Ok(()),
+    }
+}
+
+/// A client receives the history's entry at its cursor, if there is one.
+fn receive_next(client: &mut Client, history: &[Entry]) -> Result<(), AllocError>
+    ensures { (n0 : Parts) (m : Holder) → Mirrors n0 client.old m → ((e : Entry) (es : List Entry) → drop (length m.seen) history.now ≡ e ∷ es → IsNextEntry n0 m e) → OnOk result (Mirrors n0 client.new (received_first n0 m (drop (length m.seen) history.now))) }
+{
+    match history.get(client.cursor() as usize) {
+        None => Ok(()),
+        Some(entry) => client.receive(entry),
+    }
+}
