@@ -97,3 +97,7 @@ IsPendingOf None None o = Unit {0}
 IsPendingOf None (Some v) o = ⊥
 IsPendingOf (Some c) None o = ⊥
 IsPendingOf (Some c) (Some v) o = IsViewOf v o
+
+-- the number of a client in memory
+abbrev pub number_in : Client → ℕ
+number_in c = c.number

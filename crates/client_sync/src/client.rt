@@ -16,7 +16,7 @@ ghost use Rattle.notebook.specs.declared.parts.Cell.{Cell};
 ghost use Rattle.client_sync.specs.Moving.{over_pending, over_option, IsMovedOver};
 ghost use Rattle.client_sync.specs.Revisions.{raised};
 ghost use Rattle.client_sync.specs.Causes.{IsEditCause};
-ghost use Rattle.client_sync.specs.Stands.{Mirrors, IsPostable, IsNextEntry, HasTaken, IsPendingOf, IsViewOf, HasEdits, IsPendingAt, in_flight, edit_message, pending_in};
+ghost use Rattle.client_sync.specs.Stands.{Mirrors, number_in, IsPostable, IsNextEntry, HasTaken, IsPendingOf, IsViewOf, HasEdits, IsPendingAt, in_flight, edit_message, pending_in};
 
 use crate::arrival::applied_by;
 use crate::edit_error::EditError;
@@ -315,7 +315,7 @@ impl Client {
 
     /// The client's number. Takes no memory.
     pub fn number(&self) -> u32
-        ensures { (n0 : Parts) (m : Holder) → Mirrors n0 self.now m → result ≡ m.number }
+        ensures { result ≡ number_in self.now }
     {
         self.number
     }

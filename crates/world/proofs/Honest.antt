@@ -144,7 +144,7 @@ join-accepted w n whole honest e =
     (all-absent (IsHonest w.opening w.history) (IsHonest w.opening h) n w.clients absent (λ c ne p. honest-more w.opening w.history c x (λ k. others-of w n c.number k Joins ne) p) honest)
     (new-honest w.opening h n (call-legal w n Joins whole) (join-since w n e), tt)
 
-join-honest : (w : World) (n : ℕ) → IsWhole w → AreHonest w → AreHonest (happens w (Join n))
+pub join-honest : (w : World) (n : ℕ) → IsWhole w → AreHonest w → AreHonest (happens w (Join n))
 join-honest w n whole honest =
     elim (is_in n (state w.opening w.history).joined)
     as (λ b. is_in n (state w.opening w.history).joined ≡ b → AreHonest (with_joined (called w (ByClient n Joins)) n (if b then Refused AlreadyJoined else Accepted)))
@@ -152,16 +152,16 @@ join-honest w n whole honest =
     refl
 
 -- a client that edits or posts
-put-honest : (w : World) (x : Client) → AreHonest w → IsHonest w.opening w.history x → AreHonest (with_client w x)
+pub put-honest : (w : World) (x : Client) → AreHonest w → IsHonest w.opening w.history x → AreHonest (with_client w x)
 put-honest w x honest is = put-all (IsHonest w.opening w.history) x w.clients is honest
 
-edit-honest : (w : World) (c : Client) (cell : ℕ) (d : List Step) (o : Edited) → AreHonest w → IsHonest w.opening w.history c → edited w.opening c cell d ≡ o → AreHonest (with_edited w o)
+pub edit-honest : (w : World) (c : Client) (cell : ℕ) (d : List Step) (o : Edited) → AreHonest w → IsHonest w.opening w.history c → edited w.opening c cell d ≡ o → AreHonest (with_edited w o)
 edit-honest w c cell d (Done x) honest is e = put-honest w x honest (edited-honest w.opening w.history c x cell d e is)
 edit-honest w c cell d NoCell honest is e = honest
 edit-honest w c cell d EditTooLong honest is e = honest
 edit-honest w c cell d (Unfit why) honest is e = honest
 
-post-honest : (w : World) (c : Client) (op : Op) → AreHonest w → IsHonest w.opening w.history c → AreHonest (posted w c op)
+pub post-honest : (w : World) (c : Client) (op : Op) → AreHonest w → IsHonest w.opening w.history c → AreHonest (posted w c op)
 post-honest w c Joins honest is = honest
 post-honest w c (Delta cell base d) honest is = honest
 post-honest w c (Queue cell) honest is =
@@ -204,7 +204,7 @@ own-honest w c (Queue cell) ops e is whole member =
     honest-more w.opening w.history (record c { outbox = ops }) (next_entry w (ByClient c.number (Queue cell))) (λ k. queue-others w c.number c.number k cell) (honest-ops w.opening w.history c ops (λ k. sym (ap (messages_for k) e)) is)
 own-honest w c (Delta j base d) ops e is whole member = own-taken w c j base d ops e is whole member
 
-take-honest : (w : World) (c : Client) (ops : List Op) → c.outbox ≡ ops → IsWhole w → AreHonest w → IsHonest w.opening w.history c → is_in c.number (state w.opening w.history).joined ≡ true → AreHonest (taken w c ops)
+pub take-honest : (w : World) (c : Client) (ops : List Op) → c.outbox ≡ ops → IsWhole w → AreHonest w → IsHonest w.opening w.history c → is_in c.number (state w.opening w.history).joined ≡ true → AreHonest (taken w c ops)
 take-honest w c [] e whole honest is member = honest
 take-honest w c (op ∷ ops) e whole honest is member =
     let x : Entry = next_entry w (ByClient c.number op) in
@@ -283,9 +283,9 @@ events-honest w (e ∷ es) whole honest = events-honest (happens w e) es (event-
 
 -- after every list of events, what each client has in flight is what it posted, moved over what was applied after its base, and fits what the server had
 pub run-honest : (n0 : Parts) (es : List Event) → AreHonest (run n0 es)
-run-honest n0 es = events-honest (first_world n0) es (record { legal = record { replies = tt }; under = tt; joined = refl; behind = tt }) tt
+run-honest n0 es = events-honest (first_world n0) es (record { legal = record { replies = tt }; joined = refl; behind = tt }) tt
 
-honest-applied : (w : World) → IsWhole w → AreHonest w → AreApplied w
+pub honest-applied : (w : World) → IsWhole w → AreHonest w → AreApplied w
 honest-applied w whole honest n c cell base d ops e out =
     let is : IsHonest w.opening w.history c × ((c.number ≡ n) × (is_in n (map number_of w.clients) ≡ true)) = client-is (IsHonest w.opening w.history) n w.clients c honest e in
     front-answer w c cell base d ops out is.0 whole (rw (is.1.0, whole.joined) is.1.1)

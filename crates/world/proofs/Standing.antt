@@ -21,7 +21,7 @@ use Rattle.world.specs.declared.event.Event.{Event}
 use Rattle.world.specs.declared.event.Event.TheVariants.{Join, Edit, Post, Take, Receive}
 use Rattle.world.specs.World.{World, first_world, next_entry, called, with_client, with_joined, with_edited, posted, taken, delivered_next, if_held, happens, after_events, run}
 use Rattle.client_sync.proofs.Holding.{holds-all}
-use Rattle.world.specs.Claims.{IsBehind, IsUnderZero, IsWhole, DoAgree, number_of}
+use Rattle.world.specs.Claims.{IsBehind, IsUnderZero, IsOfOneSeat, IsWhole, DoAgree, number_of}
 use Rattle.world.proofs.Clients.{put-all, put-numbers, client-is, edited-seen, received-seen}
 
 -- the numbers that a call adds to those that joined
@@ -48,23 +48,19 @@ behind-more h e c b = (b.0 ++ e ∷ [], ap (λ k. k ++ e ∷ []) b.1 ∙ append_
 pub call-legal : (w : World) (n : ℕ) (op : Op) → IsWhole w → Legal w.opening (called w (ByClient n op)).history
 call-legal w n op whole = legal-append w.opening w.history (next_entry w (ByClient n op)) whole.legal tt refl
 
-call-under : (w : World) (call : Call) → IsWhole w → AllByRecursion IsUnderZero (called w call).history
-call-under w call whole = all-append IsUnderZero w.history (next_entry w call ∷ []) whole.under (refl, tt)
-
 call-behind : (w : World) (call : Call) → IsWhole w → AllByRecursion (IsBehind (called w call).history) w.clients
 call-behind w call whole = all-weaker (IsBehind w.history) (IsBehind (called w call).history) (λ c b. behind-more w.history (next_entry w call) c b) w.clients whole.behind
 
 -- a client put in its place, where it is behind
-put-whole : (w : World) (c : Client) → IsWhole w → IsBehind w.history c → IsWhole (with_client w c)
+pub put-whole : (w : World) (c : Client) → IsWhole w → IsBehind w.history c → IsWhole (with_client w c)
 put-whole w c whole b =
-    record { legal = whole.legal; under = whole.under; joined = whole.joined ∙ sym (put-numbers c w.clients); behind = put-all (IsBehind w.history) c w.clients b whole.behind }
+    record { legal = whole.legal; joined = whole.joined ∙ sym (put-numbers c w.clients); behind = put-all (IsBehind w.history) c w.clients b whole.behind }
 
 -- a call that lets nobody join
 called-whole : (w : World) (n : ℕ) (op : Op) → IsWhole w → joining (ByClient n op) (reply (state w.opening w.history) (ByClient n op)) ≡ [] → IsWhole (called w (ByClient n op))
 called-whole w n op whole none =
     record {
       legal = call-legal w n op whole;
-      under = call-under w (ByClient n op) whole;
       joined = entry-joined w (ByClient n op) ∙ (ap (λ ns. (state w.opening w.history).joined ++ ns) none ∙ (append-nil (state w.opening w.history).joined ∙ whole.joined));
       behind = call-behind w (ByClient n op) whole;
     }
@@ -80,7 +76,6 @@ join-accepted w n whole e =
     let h : List Entry = (called w (ByClient n Joins)).history in
     record {
       legal = call-legal w n Joins whole;
-      under = call-under w (ByClient n Joins) whole;
       joined = entry-joined w (ByClient n Joins)
           ∙ (ap (λ a. (state w.opening w.history).joined ++ joining (ByClient n Joins) a) e ∙ (ap (λ ns. ns ++ n ∷ []) whole.joined ∙ sym (map-append number_of w.clients (joined_client n h ∷ []))));
       behind = all-append (IsBehind h) w.clients (joined_client n h ∷ []) (call-behind w (ByClient n Joins) whole) (([], sym (append-nil h)), tt);
@@ -89,25 +84,25 @@ join-accepted w n whole e =
 join-refused : (w : World) (n : ℕ) → IsWhole w → reply (state w.opening w.history) (ByClient n Joins) ≡ Refused AlreadyJoined → IsWhole (with_joined (called w (ByClient n Joins)) n (Refused AlreadyJoined))
 join-refused w n whole e = called-whole w n Joins whole (ap (joining (ByClient n Joins)) e)
 
-join-whole : (w : World) (n : ℕ) → IsWhole w → IsWhole (happens w (Join n))
+pub join-whole : (w : World) (n : ℕ) → IsWhole w → IsWhole (happens w (Join n))
 join-whole w n whole =
     elim (is_in n (state w.opening w.history).joined)
     as (λ b. reply (state w.opening w.history) (ByClient n Joins) ≡ (if b then Refused AlreadyJoined else Accepted) → IsWhole (with_joined (called w (ByClient n Joins)) n (if b then Refused AlreadyJoined else Accepted)))
     [ true ↦ λ e. join-refused w n whole e | false ↦ λ e. join-accepted w n whole e ]
     refl
 
-edit-whole : (w : World) (c : Client) (cell : ℕ) (d : List Step) (o : Edited) → IsWhole w → IsBehind w.history c → edited w.opening c cell d ≡ o → IsWhole (with_edited w o)
+pub edit-whole : (w : World) (c : Client) (cell : ℕ) (d : List Step) (o : Edited) → IsWhole w → IsBehind w.history c → edited w.opening c cell d ≡ o → IsWhole (with_edited w o)
 edit-whole w c cell d (Done x) whole b e = put-whole w x whole (subst (λ seen. (later : List Entry) × (w.history ≡ seen ++ later)) (sym (edited-seen w.opening c x cell d e)) b)
 edit-whole w c cell d NoCell whole b e = whole
 edit-whole w c cell d EditTooLong whole b e = whole
 edit-whole w c cell d (Unfit why) whole b e = whole
 
-post-whole : (w : World) (c : Client) (op : Op) → IsWhole w → IsBehind w.history c → IsWhole (posted w c op)
+pub post-whole : (w : World) (c : Client) (op : Op) → IsWhole w → IsBehind w.history c → IsWhole (posted w c op)
 post-whole w c Joins whole b = whole
 post-whole w c (Delta cell base d) whole b = whole
 post-whole w c (Queue cell) whole b = put-whole w (with_message c (Queue cell)) whole b
 
-take-whole : (w : World) (c : Client) (ops : List Op) → IsWhole w → IsBehind w.history c → is_in c.number (state w.opening w.history).joined ≡ true → IsWhole (taken w c ops)
+pub take-whole : (w : World) (c : Client) (ops : List Op) → IsWhole w → IsBehind w.history c → is_in c.number (state w.opening w.history).joined ≡ true → IsWhole (taken w c ops)
 take-whole w c [] whole b member = whole
 take-whole w c (op ∷ ops) whole b member =
     put-whole (called w (ByClient c.number op)) (record c { outbox = ops }) (called-whole w c.number op whole (member-joining (state w.opening w.history) c.number op member)) (behind-more w.history (next_entry w (ByClient c.number op)) c b)
@@ -144,7 +139,7 @@ events-whole w (e ∷ es) whole = events-whole (happens w e) es (event-whole w e
 
 -- after every list of events the history is legal, those that joined are those that hold a client, and each client has received a front of the history
 pub run-whole : (n0 : Parts) (es : List Event) → IsWhole (run n0 es)
-run-whole n0 es = events-whole (first_world n0) es (record { legal = record { replies = tt }; under = tt; joined = refl; behind = tt })
+run-whole n0 es = events-whole (first_world n0) es (record { legal = record { replies = tt }; joined = refl; behind = tt })
 
 shorter-none : (seen later : List Entry) → length (seen ++ later) ≡ length seen → later ≡ []
 shorter-none seen [] e = refl
@@ -205,3 +200,53 @@ events-opening w (e ∷ es) = events-opening (happens w e) es ∙ event-opening 
 -- the notebook with which the session opened stays
 pub run-opening : (n0 : Parts) (es : List Event) → (run n0 es).opening ≡ n0
 run-opening n0 es = events-opening (first_world n0) es
+
+-- events keep all of the history under 0
+call-seat : (w : World) (call : Call) → IsOfOneSeat w → IsOfOneSeat (called w call)
+call-seat w call one = all-append IsUnderZero w.history (next_entry w call ∷ []) one (refl, tt)
+
+joined-seat : (w : World) (n : ℕ) (answer : Reply) → IsOfOneSeat w → IsOfOneSeat (with_joined w n answer)
+joined-seat w n Accepted one = one
+joined-seat w n (Applied rev x) one = one
+joined-seat w n (Started eval cell) one = one
+joined-seat w n (Stored eval) one = one
+joined-seat w n (Late eval) one = one
+joined-seat w n (Refused why) one = one
+
+edited-seat : (w : World) (o : Edited) → IsOfOneSeat w → IsOfOneSeat (with_edited w o)
+edited-seat w (Done c) one = one
+edited-seat w NoCell one = one
+edited-seat w EditTooLong one = one
+edited-seat w (Unfit why) one = one
+
+posted-seat : (w : World) (c : Client) (op : Op) → IsOfOneSeat w → IsOfOneSeat (posted w c op)
+posted-seat w c Joins one = one
+posted-seat w c (Delta cell base d) one = one
+posted-seat w c (Queue cell) one = one
+
+taken-seat : (w : World) (c : Client) (ops : List Op) → IsOfOneSeat w → IsOfOneSeat (taken w c ops)
+taken-seat w c [] one = one
+taken-seat w c (op ∷ ops) one = call-seat w (ByClient c.number op) one
+
+next-seat : (w : World) (c : Client) (es : List Entry) → IsOfOneSeat w → IsOfOneSeat (delivered_next w c es)
+next-seat w c [] one = one
+next-seat w c (e ∷ es) one = one
+
+held-seat : (w : World) (o : Option Client) (act : Client → World) → IsOfOneSeat w → ((c : Client) → IsOfOneSeat (act c)) → IsOfOneSeat (if_held w o act)
+held-seat w None act one f = one
+held-seat w (Some c) act one f = f c
+
+event-seat : (w : World) (e : Event) → IsOfOneSeat w → IsOfOneSeat (happens w e)
+event-seat w (Join n) one = joined-seat (called w (ByClient n Joins)) n (reply (state w.opening w.history) (ByClient n Joins)) (call-seat w (ByClient n Joins) one)
+event-seat w (Edit n cell d) one = held-seat w (client_of n w.clients) (λ c. with_edited w (edited w.opening c cell d)) one (λ c. edited-seat w (edited w.opening c cell d) one)
+event-seat w (Post n op) one = held-seat w (client_of n w.clients) (λ c. posted w c op) one (λ c. posted-seat w c op one)
+event-seat w (Take n) one = held-seat w (client_of n w.clients) (λ c. taken w c c.outbox) one (λ c. taken-seat w c c.outbox one)
+event-seat w (Receive n) one = held-seat w (client_of n w.clients) (λ c. delivered_next w c (drop (length c.seen) w.history)) one (λ c. next-seat w c (drop (length c.seen) w.history) one)
+
+events-seat : (w : World) (es : List Event) → IsOfOneSeat w → IsOfOneSeat (after_events w es)
+events-seat w [] one = one
+events-seat w (e ∷ es) one = events-seat (happens w e) es (event-seat w e one)
+
+-- after every list of events all of the history stands under 0
+pub run-seat : (n0 : Parts) (es : List Event) → IsOfOneSeat (run n0 es)
+run-seat n0 es = events-seat (first_world n0) es tt

@@ -21,10 +21,13 @@ IsBehind h c = (later : List Entry) × (h ≡ c.seen ++ later)
 abbrev pub IsUnderZero : Entry → Type 0
 IsUnderZero e = e.by ≡ 0
 
--- the history is legal, all of it under 0, those that joined are those that hold a client, in one order, and each client has received a front of the history
+-- all of the history stands under 0
+abbrev pub IsOfOneSeat : World → Type 0
+IsOfOneSeat w = AllByRecursion IsUnderZero w.history
+
+-- the history is legal, those that joined are those that hold a client, in one order, and each client has received a front of the history
 pub record IsWhole (w : World) : Type 0 where
   pub legal : Legal w.opening w.history
-  pub under : AllByRecursion IsUnderZero w.history
   pub joined : (state w.opening w.history).joined ≡ map number_of w.clients
   pub behind : AllByRecursion (IsBehind w.history) w.clients
 
