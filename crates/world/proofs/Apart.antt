@@ -101,4 +101,4 @@ events-sound w (e ∷ es) sound = events-sound (happens w e) es (event-sound w e
 
 -- after every list of events the next one finds what it may rely on
 pub run-sound : (n0 : Parts) (es : List Event) → IsSound (run n0 es)
-run-sound n0 es = events-sound (first_world n0) es (record { whole = record { legal = record { replies = tt }; under = tt; joined = refl; behind = tt }; honest = tt; apart = tt })
+run-sound n0 es = events-sound (first_world n0) es (record { whole = record { legal = record { replies = tt }; joined = refl; behind = tt }; honest = tt; apart = tt })
