@@ -129,12 +129,7 @@ impl SourceLog {
 
     /// Takes a client's delta as [`moved`](SourceLog::moved) made it of the present text. The client's
     /// floor is then the new revision. After want of memory the log is as it was.
-    pub fn take(
-        &mut self,
-        alloc: Global,
-        client: u32,
-        moved: Move,
-    ) -> Result<Accepted, AllocError>
+    pub fn take(&mut self, alloc: Global, client: u32, moved: Move) -> Result<Accepted, AllocError>
         ensures { (s : State) (cell : ℕ) (c : Cell) (base : ℕ) (d : List Step) → StandsFor s cell c.source self.old → IsMoved s cell c base d moved → MatchResult result
             (λ a. IsTaken s cell c client base d a self.new)
             (λ _. StandsFor s cell c.source self.new) }
