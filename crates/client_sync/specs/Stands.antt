@@ -33,6 +33,7 @@ in_flight cell d = record { cell = cell; flight = d; buffer = [] }
 abbrev pub edit_message : ℕ → ℕ → List Step → Op
 edit_message cell base d = Delta cell base d
 
+-- the cell that pending edits are of
 abbrev pub pending_cell : Pending → ℕ
 pending_cell p = p.cell
 
