@@ -21,7 +21,9 @@ use Rattle.transcript.specs.Texts.{as_text, ended_line}
 use Rattle.transcript.specs.States.{state_line}
 use Rattle.main_lane.specs.declared.lane.Row.{Row}
 use Rattle.main_lane.specs.Tracks.{IsRowBy, IsRow}
-use Rattle.driver.specs.Statuses.{HasPath, HasPathIfCode, AllHavePaths, AllSectionsHavePaths, cell_line, line_of_kind, code_lines, section_code_lines, setup_line, shown_in}
+use Rattle.session_core.specs.Session.{state_of}
+use Rattle.session_core.specs.declared.session.Session.{Session}
+use Rattle.driver.specs.Statuses.{Tells, HasPath, HasPathIfCode, AllHavePaths, AllSectionsHavePaths, cell_line, line_of_kind, code_lines, section_code_lines, setup_line, shown_in}
 
 -- one more cell
 pub cells-more : (n : Parts) (w : Work) (lane : Lane) (cs : List Cell) (i : ℕ) (c : Cell) (out : List ℕ) → i < length cs → c ≡ get_or cs i c → (out ++ as_text (line_of_kind n w lane c c.kind)) ++ as_text (code_lines n w lane (drop (i + 1) cs)) ≡ out ++ as_text (code_lines n w lane (drop i cs))
@@ -115,3 +117,7 @@ row-line n w home cell r some is = row-by n w home cell r (path n cell) some is
 
 pub no-row : (n : Parts) (w : Work) (cell : ℕ) → HasPath n cell → ¬ IsRow n w cell None
 no-row n w cell some is = no-row-by w cell (path n cell) some is
+
+-- a row that a session tells of
+pub told-row : (n : Parts) (w : Work) (s : Session) (cell : ℕ) (r : Option Row) → (t : Tells n w s) → IsRow (state_of t.opening s).book (state_of t.opening s).work cell r → IsRow n w cell r
+told-row n w s cell r t is = subst (λ v. IsRow n v cell r) (sym t.work) (subst (λ m. IsRow m (state_of t.opening s).work cell r) (sym t.book) is)

@@ -1,9 +1,10 @@
 -- How playing a script ends.
-use Rattle.std.specs.Prelude.{◌≡◌, ℕ, List, [], ◌∷◌, ◌++◌, length, Option, None}
+use Rattle.std.specs.Prelude.{◌≡◌, ℕ, List, [], ◌∷◌, ◌++◌, length, Option}
 use Rattle.session_ops.specs.State.{state}
 use Rattle.transcript.specs.Texts.{as_text}
 use Rattle.driver.specs.Transcript.{end_lines}
-use Rattle.driver.specs.Session.{IsSession, HasSettled}
+use Rattle.session_core.specs.Session.{IsSession, history_of}
+use Rattle.driver.specs.Settling.{HasSettled}
 use Rattle.driver.specs.declared.player.Player.{Player}
 use Rattle.book_outside.specs.Outside.{Rose, AppendsAll}
 use Rattle.notebook.specs.declared.parts.Parts.{Parts}
@@ -16,20 +17,20 @@ use Rattle.driver.specs.declared.play.Played.TheVariants.{Done, SinkFailed, OutO
 -- a player before the first line of a script
 pub record IsFresh (n0 : Parts) (p : Player) : Type 0 where
   pub session : IsSession n0 p.session
-  pub history : p.session.history ≡ []
-  pub client : p.client ≡ None
+  pub history : history_of p.session ≡ []
+  pub clients : p.clients.items ≡ []
   pub marks : p.marks ≡ []
 
 -- the end settled, and left a mark
 pub record HasEnded (n0 : Parts) (old new : Player) : Type 0 where
   pub settled : HasSettled n0 1 old.session new.session
-  pub client : new.client ≡ old.client
-  pub marks : new.marks ≡ old.marks ++ length new.session.history ∷ []
+  pub clients : new.clients ≡ old.clients
+  pub marks : new.marks ≡ old.marks ++ length (history_of new.session) ∷ []
 
 -- and what it prints was written
 pub record EndsWritten (n0 : Parts) (old new : Player) (before after : Option (List ℕ)) : Type 0 where
   pub ended : HasEnded n0 old new
-  pub written : AppendsAll before (as_text (end_lines (state n0 new.session.history))) after
+  pub written : AppendsAll before (as_text (end_lines (state n0 (history_of new.session)))) after
 
 -- the script was played, and its transcript written
 pub record IsPlayedOut (n0 : Parts) (content : Content) (before after : Option (List ℕ)) (report : Report) : Type 0 where

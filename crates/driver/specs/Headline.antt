@@ -1,19 +1,21 @@
 -- What a run of a script says: it prints the transcript of one actual history.
-use Rattle.std.specs.Prelude.{◌≡◌, ℕ, ◌+◌, ◌<◌, ◌⊎◌, true, List, [], ◌∷◌, ◌++◌, length, map, take, Option, Some, None}
+use Rattle.std.specs.Prelude.{◌≡◌, ℕ, ◌+◌, ◌<◌, ◌⊎◌, true, List, [], ◌∷◌, ◌++◌, length, map, take, Option, Some}
 use Rattle.delta.specs.declared.Step.{Step}
 use Rattle.delta.specs.Moves.{text_after}
 use Rattle.notebook.specs.declared.parts.Cell.{Cell}
 use Rattle.notebook.specs.declared.parts.Parts.{Parts}
-use Rattle.notebook.specs.Book.{cells, found}
+use Rattle.notebook.specs.Book.{cells}
 use Rattle.session_ops.specs.declared.entry.Call.{Call}
 use Rattle.session_ops.specs.declared.entry.Call.TheVariants.{Client as ByClient, Start, Respond}
 use Rattle.session_ops.specs.declared.entry.Entry.{Entry}
 use Rattle.session_ops.specs.declared.entry.Reply.{Reply}
-use Rattle.session_ops.specs.declared.entry.Reply.TheVariants.{Started}
+use Rattle.session_ops.specs.declared.entry.Reply.TheVariants.{Applied, Started}
+use Rattle.session_ops.specs.declared.entry.Op.TheVariants.{Delta}
 use Rattle.notebook.specs.Flow.{Passed, path}
 use Rattle.session_ops.specs.Work.{Finished, last_finished, is_evaluated}
-use Rattle.session_ops.specs.State.{State, Legal, state, first_source, taken_by, entries_by, misfit, ShowsAlong}
-use Rattle.client_sync.specs.Client.{Client, Pending, delivered, held}
+use Rattle.session_ops.specs.State.{State, Legal, state, first_source, taken_by, entries_by, ShowsAlong}
+use Rattle.client_sync.specs.Client.{Client, held}
+use Rattle.world.specs.Waiting.{IsHonest}
 use Rattle.script.specs.declared.content.Content.{Content}
 use Rattle.driver.specs.Turns.{AreMarks}
 use Rattle.driver.specs.Player.{Stage}
@@ -36,24 +38,25 @@ AllOfRun workers (e ∷ es) = IsOfRun workers e × AllOfRun workers es
 abbrev pub call_of : Entry → Call
 call_of e = e.call
 
--- the unconfirmed edits of a cell fit what the server had, one after the other
-abbrev pub FitsCell : Pending → Option Cell → Type 0
-FitsCell p None = ⊥
-FitsCell p (Some c) = (misfit p.flight c.source ≡ None) × (misfit p.buffer (text_after p.flight c.source) ≡ None)
-
-abbrev pub AllFit : List Pending → List Cell → Type 0
-AllFit [] cs = Unit {0}
-AllFit (p ∷ ps) cs = FitsCell p (found p.cell cs) × AllFit ps cs
-
--- a client has received the history up to its cursor; its unconfirmed edits fit there; with all received and nothing pending it holds the server's notebook
+-- a client has received the history up to its cursor; what it has in flight is what it posted, moved over what was applied since, and its unconfirmed edits fit what the server had; with all received and nothing pending it holds the server's notebook
 pub record IsClientOf (n0 : Parts) (h : List Entry) (c : Client) : Type 0 where
   pub cursor : (later : List Entry) × (h ≡ c.seen ++ later)
-  pub edits : AllFit c.pending (cells (delivered n0 c).book)
+  pub honest : IsHonest n0 h c
   pub agrees : c.seen ≡ h → c.pending ≡ [] → held n0 c ≡ (state n0 h).book
 
 abbrev pub AllClients : Parts → List Entry → List Client → Type 0
 AllClients n0 h [] = Unit {0}
 AllClients n0 h (c ∷ cs) = IsClientOf n0 h c × AllClients n0 h cs
+
+-- a client's delta is applied
+abbrev pub IsTaken : Call → Reply → Type 0
+IsTaken (ByClient n (Delta cell base d)) answer = (rev : ℕ) × ((x : List Step) × (answer ≡ Applied rev x))
+IsTaken call answer = Unit {0}
+
+-- no delta of a client is refused
+abbrev pub AllTaken : List Entry → Type 0
+AllTaken [] = Unit {0}
+AllTaken (e ∷ es) = IsTaken e.call e.reply × AllTaken es
 
 -- a text after some deltas, one after the other
 abbrev pub text_after_all : List ℕ → List (List Step) → List ℕ
@@ -96,13 +99,14 @@ pub record IsHistory (n0 : Parts) (workers : ℕ) (h : List Entry) (marks : List
   pub others : AllOfRun workers h
   pub answered : AllAnswered h
 
--- a run that was played to its end: what is printed; the stage at the end, whose calls are the player's entries in order, each once (so each posted message has one entry); its clients; each source, with each accepted delta in it once; and what each evaluated cell shows after each front of the history
+-- a run that was played to its end: what is printed; the stage at the end, whose calls are the player's entries in order, each once (so each posted message has at most one entry); no delta of a client refused; its clients; each source, with each accepted delta in it once; and what each evaluated cell shows after each front of the history
 pub record IsPlayed (n0 : Parts) (notices : List (List ℕ)) (script : Content) (workers : ℕ) (h : List Entry) (marks : List ℕ) (text : List ℕ) : Type 0 where
   pub history : IsHistory n0 workers h marks
   pub printed : transcript n0 notices script h marks ≡ Some text
   pub stage : Stage
   pub played : finished n0 script h marks ≡ Some stage
   pub calls : stage.asked ≡ map call_of (entries_by h 0)
+  pub taken : AllTaken h
   pub clients : AllClients n0 h stage.clients
   pub once : AllGrown (state n0 h) (cells (state n0 h).book)
   pub evaluated : (k : ℕ) → AllShow (state n0 (take k h))

@@ -1,13 +1,12 @@
 pub mod Answers
+pub mod Clients
 pub mod Ends
 pub mod Headline
-pub mod Holder
 pub mod Lines
 pub mod Player
 pub mod Playing
 pub mod Program
-pub mod Revisions
-pub mod Session
+pub mod Settling
 pub mod Standing
 pub mod Transcript
 pub mod Turns

@@ -1,11 +1,15 @@
 -- The printed lines of a script, by a name's bytes.
-use Rattle.std.specs.Prelude.{ℕ, List, [], ◌++◌, codes}
+use Rattle.std.specs.Prelude.{ℕ, List, [], ◌++◌, Option, Some, None, codes}
 use Rattle.std.specs.Fmt.{decimal}
+use Rattle.delta.specs.declared.Step.{Step}
+use Rattle.notebook.specs.declared.parts.Cell.{Cell}
 use Rattle.session_ops.specs.State.{refusal_of, Past, Splits}
 use Rattle.session_ops.specs.declared.entry.Reply.{Reply}
+use Rattle.client_sync.specs.Client.{Pending}
 use Rattle.client_sync.specs.declared.edit_error.EditError.{EditError}
 use Rattle.client_sync.specs.declared.edit_error.EditError.TheVariants.{NoCell, EditTooLong, PastEnd, SplitsPair, OutOfMemory}
 use Rattle.transcript.specs.Texts.{reply_text, refusal_text}
+use Rattle.transcript.specs.Deltas.{delta_text}
 
 abbrev pub joined_words : List ℕ → ℕ → List ℕ
 joined_words name at = name ++ (codes " joined at " ++ decimal at)
@@ -13,6 +17,7 @@ joined_words name at = name ++ (codes " joined at " ++ decimal at)
 abbrev pub not_joined_words : List ℕ → Reply → List ℕ
 not_joined_words name answer = name ++ (codes " join: " ++ reply_text answer)
 
+-- a line that needs a client, whose name holds none
 abbrev pub no_client_words : List ℕ → List ℕ → List ℕ
 no_client_words name word = name ++ (codes " " ++ (word ++ codes ": refused NotJoined"))
 
@@ -25,8 +30,35 @@ posted_words name = name ++ codes " post: ok"
 abbrev pub sent_words : List ℕ → Reply → List ℕ
 sent_words name answer = name ++ (codes " sent: " ++ reply_text answer)
 
+abbrev pub nothing_words : List ℕ → List ℕ
+nothing_words name = name ++ codes " sent: nothing"
+
+abbrev pub received_words : List ℕ → ℕ → List ℕ
+received_words name at = name ++ (codes " at " ++ decimal at)
+
 abbrev pub sync_words : ℕ → List ℕ
 sync_words at = codes "sync at " ++ decimal at
+
+-- what is in flight of pending edits, and what is buffered
+abbrev pub flight_of : Option Pending → Option (List Step)
+flight_of None = None
+flight_of (Some p) = Some p.flight
+
+abbrev pub buffer_of : Option Pending → List Step
+buffer_of None = []
+buffer_of (Some p) = p.buffer
+
+abbrev pub flight_words : Option (List Step) → List ℕ
+flight_words None = codes "none"
+flight_words (Some d) = delta_text d
+
+-- a cell's unconfirmed edits, and how many messages wait; or that the client has no such cell
+abbrev pub pending_answer : Option Cell → Option Pending → ℕ → List ℕ
+pending_answer None p messages = codes "refused NoCell"
+pending_answer (Some own) p messages = codes "inflight " ++ (flight_words (flight_of p) ++ (codes " buffer " ++ (delta_text (buffer_of p) ++ (codes " outbox " ++ decimal messages))))
+
+abbrev pub pending_words : List ℕ → ℕ → List ℕ → List ℕ
+pending_words name cell answer = name ++ (codes " pending " ++ (decimal cell ++ (codes ": " ++ answer)))
 
 -- what an edit's error prints; want of memory is never printed
 abbrev pub error_words : EditError → List ℕ

@@ -1,9 +1,9 @@
 -- What each line of a script uses of the turns, and what it prints.
-use Rattle.std.specs.Prelude.{zero, suc, ℕ, ◌==◌, if◌then◌else◌, Bool, true, ◌&&◌, List, [], ◌∷◌, ◌++◌, length, drop, slice_get, Option, Some, None, codes}
-use Rattle.std.specs.Fmt.{decimal}
+use Rattle.std.specs.Prelude.{zero, suc, ℕ, ◌==◌, min, if◌then◌else◌, Bool, true, ◌&&◌, List, [], ◌∷◌, ◌++◌, length, drop, take, map, slice_get, Option, Some, None, codes}
 use Rattle.std.specs.Str.{encode_utf8_all}
 use Rattle.delta.specs.declared.Step.{Step}
 use Rattle.notebook.specs.declared.parts.Parts.{Parts}
+use Rattle.notebook.specs.Book.{cells, found}
 use Rattle.session_ops.specs.declared.entry.Op.{Op}
 use Rattle.session_ops.specs.declared.entry.Op.TheVariants.{Join as Joins, Queue as Queues}
 use Rattle.session_ops.specs.declared.entry.Call.{Call}
@@ -14,12 +14,16 @@ use Rattle.session_ops.specs.declared.entry.Entry.{Entry}
 use Rattle.session_ops.specs.Work.{is_idle}
 use Rattle.session_ops.specs.State.{State, state, revision, refusal_of}
 use Rattle.session_ops.specs.Same.{same_call}
-use Rattle.client_sync.specs.Client.{Client, Edited, Done, NoCell, EditTooLong, Unfit, edited, received, held, delivered, joined_client, client_of, put_client, with_message}
-use Rattle.transcript.specs.Texts.{refusal_text, reply_text, book_lines, as_text}
+use Rattle.client_sync.specs.Client.{Client, Edited, Done, NoCell, EditTooLong, Unfit, edited, received, held, delivered, joined_client, client_of, put_client, with_message, pending_of}
+use Rattle.world.specs.Claims.{number_of}
+use Rattle.transcript.specs.Texts.{refusal_text, book_lines, as_text}
 use Rattle.script.specs.declared.line.ScriptLine.{ScriptLine}
-use Rattle.script.specs.declared.line.ScriptLine.TheVariants.{Join, Edit, Post, Sync, Show, Settle, Cells}
+use Rattle.script.specs.declared.line.ScriptLine.TheVariants.{Join, Edit, Post, Send, Recv, Sync, Show, Pending, Settle, Cells}
+use Rattle.script.specs.declared.line.Count.{Count}
+use Rattle.script.specs.declared.line.Count.TheVariants.{AtMost, All}
 use Rattle.script.specs.declared.line.PostedOp.{PostedOp}
 use Rattle.script.specs.declared.line.PostedOp.TheVariants.{Queue}
+use Rattle.driver.specs.Lines.{joined_words, not_joined_words, no_client_words, edit_words, posted_words, sent_words, nothing_words, received_words, sync_words, pending_answer, pending_words}
 use Rattle.driver.specs.Statuses.{status_lines}
 use Rattle.driver.specs.Turns.{Turn, Made, Looked}
 
@@ -83,32 +87,26 @@ abbrev pub name_of : Game → ℕ → List ℕ
 name_of g n = encode_utf8_all (or_no_name (slice_get g.names n))
 
 -- join
-abbrev pub joined_line : Game → ℕ → List Entry → List ℕ
-joined_line g n seen = name_of g n ++ (codes " joined at " ++ decimal (length seen))
-
-abbrev pub not_joined_line : Game → ℕ → Reply → List ℕ
-not_joined_line g n answer = name_of g n ++ (codes " join: " ++ reply_text answer)
-
 abbrev pub joined : Game → ℕ → List Entry → Stage → Reply → Stage
-joined g n seen s Accepted = say (joined_line g n seen ∷ []) (with_clients (s.clients ++ joined_client n seen ∷ []) s)
-joined g n seen s answer = say (not_joined_line g n answer ∷ []) s
+joined g n seen s Accepted = say (joined_words (name_of g n) (length seen) ∷ []) (with_clients (s.clients ++ joined_client n seen ∷ []) s)
+joined g n seen s answer = say (not_joined_words (name_of g n) answer ∷ []) s
 
 abbrev pub play_join : Game → ℕ → Stage → Option Stage
 play_join g n s = or_none (asks (ByClient n Joins) s) (λ a. Some (joined g n a.seen a.stage a.reply))
 
 -- a line that needs a client, whose name holds none
 abbrev pub no_client : Game → ℕ → List ℕ → Stage → Stage
-no_client g n word s = say ((name_of g n ++ (codes " " ++ (word ++ codes ": refused NotJoined"))) ∷ []) s
+no_client g n word s = say (no_client_words (name_of g n) word ∷ []) s
 
 -- edit
-abbrev pub edit_line : Game → ℕ → ℕ → List ℕ → List ℕ
-edit_line g n cell answer = name_of g n ++ (codes " edit " ++ (decimal cell ++ (codes ": " ++ answer)))
+abbrev pub say_edit : Game → ℕ → ℕ → List ℕ → Stage → Stage
+say_edit g n cell answer s = say (edit_words (name_of g n) cell answer ∷ []) s
 
 abbrev pub with_edited : Game → ℕ → ℕ → Stage → Edited → Stage
-with_edited g n cell s (Done c) = say (edit_line g n cell (codes "ok") ∷ []) (with_clients (put_client c s.clients) s)
-with_edited g n cell s NoCell = say (edit_line g n cell (codes "refused NoCell") ∷ []) s
-with_edited g n cell s EditTooLong = say (edit_line g n cell (codes "refused EditTooLong") ∷ []) s
-with_edited g n cell s (Unfit why) = say (edit_line g n cell (codes "refused " ++ refusal_text (refusal_of why)) ∷ []) s
+with_edited g n cell s (Done c) = say_edit g n cell (codes "ok") (with_clients (put_client c s.clients) s)
+with_edited g n cell s NoCell = say_edit g n cell (codes "refused NoCell") s
+with_edited g n cell s EditTooLong = say_edit g n cell (codes "refused EditTooLong") s
+with_edited g n cell s (Unfit why) = say_edit g n cell (codes "refused " ++ refusal_text (refusal_of why)) s
 
 abbrev pub play_edit : Game → ℕ → ℕ → List Step → Stage → Option Client → Stage
 play_edit g n cell d s None = no_client g n (codes "edit") s
@@ -118,59 +116,105 @@ play_edit g n cell d s (Some c) = with_edited g n cell s (edited g.opening c cel
 abbrev pub op_of : PostedOp → Op
 op_of (Queue cell) = Queues cell
 
-abbrev pub post_line : Game → ℕ → List ℕ
-post_line g n = name_of g n ++ codes " post: ok"
-
 abbrev pub play_post : Game → ℕ → Op → Stage → Option Client → Stage
 play_post g n op s None = no_client g n (codes "post") s
-play_post g n op s (Some c) = say (post_line g n ∷ []) (with_clients (put_client (with_message c op) s.clients) s)
+play_post g n op s (Some c) = say (posted_words (name_of g n) ∷ []) (with_clients (put_client (with_message c op) s.clients) s)
 
--- the messages of a client's outbox are taken from its front, one entry each
-abbrev pub sent_line : Game → ℕ → Reply → List ℕ
-sent_line g n answer = name_of g n ++ (codes " sent: " ++ reply_text answer)
+-- so many, or all where there are fewer
+abbrev pub how_many : Count → ℕ → ℕ
+how_many (AtMost n) there = min n there
+how_many All there = there
 
+-- send: the message at the front of the client's outbox is taken and answered; nothing happens where there is none
 abbrev pub without_front : Client → List Op → Client
 without_front c rest = record c { outbox = rest }
 
-abbrev pub send : Game → Client → List Op → Stage → Option Stage
-send g c [] s = Some s
-send g c (m ∷ rest) s =
+abbrev pub send_front : Game → Client → List Op → Stage → Option Stage
+send_front g c [] s = Some s
+send_front g c (m ∷ rest) s =
     or_none (asks (ByClient c.number m) s)
-    (λ a. send g c rest (say (sent_line g c.number a.reply ∷ []) (with_clients (put_client (without_front c rest) a.stage.clients) a.stage)))
+    (λ a. Some (say (sent_words (name_of g c.number) a.reply ∷ []) (with_clients (put_client (without_front c rest) a.stage.clients) a.stage)))
 
-abbrev pub send_all : Game → List Client → Stage → Option Stage
-send_all g [] s = Some s
-send_all g (c ∷ cs) s = or_none (send g c c.outbox s) (send_all g cs)
+abbrev pub send_next_of : Game → Stage → Option Client → Option Stage
+send_next_of g s None = Some s
+send_next_of g s (Some c) = send_front g c c.outbox s
 
--- each client receives the entries from its cursor up to the end of these
+abbrev pub send_next : Game → ℕ → Stage → Option Stage
+send_next g n s = send_next_of g s (client_of n s.clients)
+
+-- so many messages, one after the other
+abbrev pub send_many : ℕ → Game → ℕ → Stage → Option Stage
+send_many zero g n s = Some s
+send_many (suc k) g n s = or_none (send_next g n s) (send_many k g n)
+
+abbrev pub send_or_nothing : Game → ℕ → ℕ → Stage → Option Stage
+send_or_nothing g n many s = if many == 0 then Some (say (nothing_words (name_of g n) ∷ []) s) else send_many many g n s
+
+abbrev pub play_send : Game → ℕ → Count → Stage → Option Client → Option Stage
+play_send g n count s None = Some (no_client g n (codes "send") s)
+play_send g n count s (Some c) = send_or_nothing g n (how_many count (length c.outbox)) s
+
+-- recv: one fetch, of whose entries the client receives some
+abbrev pub unseen : Client → List Entry → List Entry
+unseen c h = drop (length c.seen) h
+
+abbrev pub receive_some : Game → Count → List Entry → Client → Client
+receive_some g count h c = received g.opening c (take (how_many count (length (unseen c h))) (unseen c h))
+
+abbrev pub with_received : Game → ℕ → Stage → Client → Stage
+with_received g n s c = say (received_words (name_of g n) (length c.seen) ∷ []) (with_clients (put_client c s.clients) s)
+
+abbrev pub play_recv : Game → ℕ → Count → Stage → Option Client → Option Stage
+play_recv g n count s None = Some (no_client g n (codes "recv") s)
+play_recv g n count s (Some c) = or_none (looks s) (λ m. Some (with_received g n m.stage (receive_some g count m.seen c)))
+
+-- a round of sync: every client in order of joining sends all, then one fetch is received by all
+abbrev pub outbox_of : Option Client → List Op
+outbox_of None = []
+outbox_of (Some c) = c.outbox
+
+abbrev pub waiting : ℕ → List Client → ℕ
+waiting n cs = length (outbox_of (client_of n cs))
+
+abbrev pub send_all : Game → ℕ → Stage → Option Stage
+send_all g n s = send_many (waiting n s.clients) g n s
+
+abbrev pub send_each : Game → List ℕ → Stage → Option Stage
+send_each g [] s = Some s
+send_each g (n ∷ ns) s = or_none (send_all g n s) (send_each g ns)
+
 abbrev pub receive_all : Game → List Entry → List Client → List Client
 receive_all g h [] = []
-receive_all g h (c ∷ cs) = received g.opening c (drop (length c.seen) h) ∷ receive_all g h cs
+receive_all g h (c ∷ cs) = received g.opening c (unseen c h) ∷ receive_all g h cs
 
--- a round of sync: every client sends what stands in its outbox, then one fetch is received by all
 abbrev pub round : Game → Stage → Option Marked
 round g s =
-    or_none (send_all g s.clients s)
+    or_none (send_each g (map number_of s.clients) s)
     (λ t. or_none (looks t) (λ m. Some (record { seen = m.seen; stage = with_clients (receive_all g m.seen m.stage.clients) m.stage })))
 
 abbrev pub all_sent : List Client → Bool
 all_sent [] = true
 all_sent (c ∷ cs) = (length c.outbox == 0) && all_sent cs
 
-abbrev pub sync_line : List Entry → List ℕ
-sync_line seen = codes "sync at " ++ decimal (length seen)
-
 -- rounds until every outbox is empty; each of them uses a turn
 abbrev pub rounds : ℕ → Game → Stage → Option Stage
 rounds zero g s = None
 rounds (suc n) g s =
     or_none (round g s)
-    (λ r. if all_sent r.stage.clients then Some (say (sync_line r.seen ∷ []) r.stage) else rounds n g r.stage)
+    (λ r. if all_sent r.stage.clients then Some (say (sync_words (length r.seen) ∷ []) r.stage) else rounds n g r.stage)
 
 -- show
 abbrev pub play_show : Game → ℕ → Stage → Option Client → Stage
 play_show g n s None = no_client g n (codes "show") s
 play_show g n s (Some c) = say (book_lines (revision (delivered g.opening c)) (held g.opening c)) s
+
+-- pending
+abbrev pub pending_shown : Game → ℕ → Client → List ℕ
+pending_shown g cell c = pending_answer (found cell (cells (delivered g.opening c).book)) (pending_of cell c.pending) (length c.outbox)
+
+abbrev pub play_pending : Game → ℕ → ℕ → Stage → Option Client → Stage
+play_pending g n cell s None = no_client g n (codes "pending") s
+play_pending g n cell s (Some c) = say (pending_words (name_of g n) cell (pending_shown g cell c) ∷ []) s
 
 -- settle: a look at which nothing is queued and nothing runs; what was evaluated before it is the evaluators'
 abbrev pub state_at : Game → Marked → State
@@ -197,8 +241,11 @@ abbrev pub play_line : Game → ScriptLine → Stage → Option Stage
 play_line g (Join n) s = play_join g n s
 play_line g (Edit n cell d) s = Some (play_edit g n cell d s (client_of n s.clients))
 play_line g (Post n op) s = Some (play_post g n (op_of op) s (client_of n s.clients))
+play_line g (Send n count) s = play_send g n count s (client_of n s.clients)
+play_line g (Recv n count) s = play_recv g n count s (client_of n s.clients)
 play_line g Sync s = rounds (length s.turns) g s
 play_line g (Show n) s = Some (play_show g n s (client_of n s.clients))
+play_line g (Pending n cell) s = Some (play_pending g n cell s (client_of n s.clients))
 play_line g Settle s = play_settle g s
 play_line g Cells s = play_cells g s
 

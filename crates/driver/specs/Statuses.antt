@@ -1,5 +1,5 @@
 -- The states of the setup and code cells, as lines.
-use Rattle.std.specs.Prelude.{ℕ, ◌==◌, if◌then◌else◌, List, [], ◌∷◌, ◌++◌, length, IsSome, option_map, unwrap_or}
+use Rattle.std.specs.Prelude.{◌≡◌, ℕ, ◌==◌, if◌then◌else◌, List, [], ◌∷◌, ◌++◌, length, IsSome, option_map, unwrap_or}
 use Rattle.ex_model.specs.declared.ran.Shown.{Shown}
 use Rattle.notebook.specs.declared.parts.Cell.{Cell}
 use Rattle.notebook.specs.declared.parts.Section.{Section}
@@ -13,6 +13,8 @@ use Rattle.notebook.specs.Flow.{path, section_lane}
 use Rattle.notebook.specs.Validity.{validity_by, status_by}
 use Rattle.session_ops.specs.Work.{Work, Finished, is_in, is_running, last_finished, path_read}
 use Rattle.transcript.specs.States.{state_line}
+use Rattle.session_core.specs.Session.{IsSession, state_of}
+use Rattle.session_core.specs.declared.session.Session.{Session}
 
 abbrev pub shown_in : Finished → Shown
 shown_in f = f.shown
@@ -63,3 +65,10 @@ AllHavePaths n (c ∷ cs) = HasPathIfCode n c c.kind × AllHavePaths n cs
 abbrev pub AllSectionsHavePaths : Parts → List Section → Type 0
 AllSectionsHavePaths n [] = Unit {0}
 AllSectionsHavePaths n (s ∷ ss) = AllHavePaths n s.cells × AllSectionsHavePaths n ss
+
+-- the session tells of this notebook and of this work on it
+pub record Tells (n : Parts) (w : Work) (s : Session) : Type 0 where
+  pub opening : Parts
+  pub session : IsSession opening s
+  pub book : n ≡ (state_of opening s).book
+  pub work : w ≡ (state_of opening s).work

@@ -1,13 +1,12 @@
 //! The program: words, book and script in, the transcript out.
 #![tactic(auto)]
 
-mod client;
+mod clients;
 mod lines;
 mod outcome;
 mod play;
 mod player;
-mod revisions;
-mod session;
+mod settling;
 mod statuses;
 mod top;
 

@@ -1,12 +1,17 @@
 //! The printed lines of a script.
-ghost use Rattle.std.specs.Prelude.{◌≡◌, ◌≢◌, ◌++◌, ◌∷◌, [], OnOk, string_bytes, codes};
+ghost use Rattle.std.specs.Prelude.{◌≡◌, ◌≢◌, ◌++◌, ◌∷◌, [], Option, Some, OnOk, string_bytes, codes};
 ghost use Rattle.transcript.specs.Texts.{as_text};
-ghost use Rattle.driver.specs.Lines.{joined_words, not_joined_words, no_client_words, edit_words, posted_words, sent_words, sync_words, error_words};
+ghost use Rattle.notebook.specs.declared.parts.Cell.{Cell};
+ghost use Rattle.client_sync.specs.Client.{Pending};
+ghost use Rattle.client_sync.specs.Stands.{IsPendingOf, IsViewOf};
+ghost use Rattle.std.specs.Option.{option_copied};
+ghost use Rattle.driver.specs.Lines.{joined_words, not_joined_words, no_client_words, edit_words, posted_words, sent_words, nothing_words, received_words, sync_words, flight_words, pending_answer, pending_words, error_words};
 
-use client_sync::EditError;
+use client_sync::{EditError, PendingEdits};
+use delta::Delta;
 use session_ops::{Refusal, Reply};
 use std::alloc::AllocError;
-use transcript::{push_named, push_plain, push_refusal, push_reply};
+use transcript::{push_delta, push_named, push_plain, push_refusal, push_reply};
 
 /// `NAME joined at K`.
 pub(crate) fn push_joined(out: &mut String, name: &str, at: u64) -> Result<(), AllocError>
@@ -125,4 +130,73 @@ pub(crate) fn push_sync(out: &mut String, at: u64) -> Result<(), AllocError>
 {
     push_named(out, "sync at ", at)?;
     push_plain(out, "\n")
+}
+
+/// `NAME sent: nothing`.
+pub(crate) fn push_nothing_sent(out: &mut String, name: &str) -> Result<(), AllocError>
+    ensures { OnOk result (string_bytes out.new ≡ string_bytes out.old ++ as_text (nothing_words name.now ∷ [])) }
+{
+    push_plain(out, name)?;
+    push_plain(out, " sent: nothing\n")
+}
+
+/// `NAME at K`.
+pub(crate) fn push_received(out: &mut String, name: &str, at: u64) -> Result<(), AllocError>
+    ensures { OnOk result (string_bytes out.new ≡ string_bytes out.old ++ as_text (received_words name.now at ∷ [])) }
+{
+    push_plain(out, name)?;
+    push_named(out, " at ", at)?;
+    push_plain(out, "\n")
+}
+
+/// `NAME pending CELL: inflight DELTA buffer DELTA outbox N`, or that there is no such cell.
+pub(crate) fn push_pending(
+    out: &mut String,
+    name: &str,
+    cell: u64,
+    edits: Option<PendingEdits<'_>>,
+    messages: u64,
+) -> Result<(), AllocError>
+    ensures { (own : Option Cell) (p : Option Pending) → IsPendingOf own edits.entry p → OnOk result (string_bytes out.new ≡ string_bytes out.old ++ as_text (pending_words name.now cell (pending_answer own p messages) ∷ [])) }
+{
+    push_plain(out, name)?;
+    push_named(out, " pending ", cell)?;
+    push_plain(out, ": ")?;
+    push_pending_answer(out, edits, messages)?;
+    push_plain(out, "\n")
+}
+
+/// What is pending for a cell, or that there is no such cell.
+fn push_pending_answer(
+    out: &mut String,
+    edits: Option<PendingEdits<'_>>,
+    messages: u64,
+) -> Result<(), AllocError>
+    ensures { (own : Option Cell) (p : Option Pending) → IsPendingOf own edits.entry p → OnOk result (string_bytes out.new ≡ string_bytes out.old ++ pending_answer own p messages) }
+{
+    match edits {
+        None => push_plain(out, "refused NoCell"),
+        Some(edits) => push_edits(out, edits, messages),
+    }
+}
+
+/// `inflight DELTA buffer DELTA outbox N`.
+fn push_edits(out: &mut String, edits: PendingEdits<'_>, messages: u64) -> Result<(), AllocError>
+    ensures { (own : Cell) (p : Option Pending) → IsViewOf edits.entry p → OnOk result (string_bytes out.new ≡ string_bytes out.old ++ pending_answer (Some own) p messages) }
+{
+    push_plain(out, "inflight ")?;
+    push_flight(out, edits.inflight)?;
+    push_plain(out, " buffer ")?;
+    push_delta(out, edits.buffer)?;
+    push_named(out, " outbox ", messages)
+}
+
+/// A delta in flight; `none` where there is none.
+fn push_flight(out: &mut String, flight: Option<&Delta>) -> Result<(), AllocError>
+    ensures { OnOk result (string_bytes out.new ≡ string_bytes out.old ++ flight_words (option_copied flight.entry)) }
+{
+    match flight {
+        None => push_plain(out, "none"),
+        Some(delta) => push_delta(out, delta),
+    }
 }

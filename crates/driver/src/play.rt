@@ -1,24 +1,25 @@
 //! Playing a script over a notebook, with what is printed written to a sink.
-ghost use Rattle.std.specs.Prelude.{◌≡◌, ℕ, ◌≤◌, [], List, Bool, OnOk, IfOk, OnErr, IsErrOf, string_bytes};
+ghost use Rattle.std.specs.Prelude.{◌≡◌, ℕ, ◌≤◌, [], List, OnOk, IfOk, OnErr, IsErrOf, string_bytes};
 ghost use Rattle.book_outside.specs.Outside.{Rose, AppendsAll};
 ghost use Rattle.notebook.specs.declared.parts.Parts.{Parts};
-ghost use Rattle.script.specs.Play.{IsPlayable};
 ghost use Rattle.notebook.specs.Flow.{IsUnbranched};
 ghost use Rattle.session_ops.specs.State.{state};
 ghost use Rattle.transcript.specs.Texts.{as_text};
 ghost use Rattle.driver.specs.Player.{Game, Stage};
 ghost use Rattle.driver.specs.Transcript.{end_lines};
-ghost use Rattle.driver.specs.Session.{IsSession};
+ghost use Rattle.session_core.specs.Session.{IsSession, history_of};
 ghost use Rattle.driver.specs.Headline.{IsHistory, IsPlayed};
-ghost use Rattle.driver.specs.Standing.{Stands, Waits, HasPlayed, after_line};
-ghost use Rattle.driver.specs.Playing.{IsReady, MayFollow, IsOnTheWay};
+ghost use Rattle.driver.specs.Standing.{Stands, HasPlayed, entries_of};
+ghost use Rattle.driver.specs.Playing.{HavePlayed};
 ghost use Rattle.driver.specs.Ends.{IsPlayedSo, IsFresh, EndsWritten, HasEnded};
 
 use crate::outcome::Report;
 use crate::player::Player;
+use crate::settling::settle;
 use crate::statuses::push_statuses;
 use book_outside::{Sink, SinkError};
 use notebook::Notebook;
+use plain_list::Items;
 use script::{Content, ScriptLine};
 use std::alloc::{AllocError, Global};
 use std::sync::Wait;
@@ -51,14 +52,13 @@ pub(crate) fn play<R: Wait, K: Sink>(
     sink: &mut K,
 ) -> Played
     requires unbranched { IsUnbranched book }
-    requires playable { IsPlayable content.now }
     ensures played { IsPlayedSo book content.now (K.faults sink.old) (K.faults sink.new) (K.written sink.old) (K.written sink.new) result }
 {
     let mut player = match Player::new(alloc, book) {
         Ok(player) => player,
         Err(_) => return Played::OutOfMemory,
     };
-    match play_all(rt, alloc, &mut player, content, sink) {
+    match play_all(rt, &mut player, content, sink) {
         Ok(()) => Played::Done(report_of(player)),
         Err(PlayFault::SinkFailed) => Played::SinkFailed(report_of(player)),
         Err(PlayFault::OutOfMemory) => Played::OutOfMemory,
@@ -67,15 +67,16 @@ pub(crate) fn play<R: Wait, K: Sink>(
 
 /// What the player leaves.
 fn report_of(player: Player) -> Report
-    ensures { (result.history ≡ player.session.history) × (result.marks ≡ player.marks) }
+    ensures { (result.history ≡ history_of player.session) × (result.marks ≡ player.marks) }
 {
     let Player {
+        alloc: _,
         session,
-        client: _,
+        clients: _,
         marks,
     } = player;
     Report {
-        history: session.into_history(),
+        history: Items::from_vec(session.into_history()),
         marks,
     }
 }
@@ -83,38 +84,31 @@ fn report_of(player: Player) -> Report
 /// Plays all lines and the end.
 fn play_all<R: Wait, K: Sink>(
     rt: &R,
-    alloc: Global,
     player: &mut Player,
     content: &Content,
     sink: &mut K,
 ) -> Result<(), PlayFault>
-    requires { IsPlayable content.now }
-    ensures played { (n0 : Parts) → IsFresh n0 player.old → OnOk result ((text : List ℕ) × (IsPlayed n0 [] content.now 0 player.new.session.history player.new.marks text × AppendsAll (K.written sink.old) text (K.written sink.new))) }
-    ensures failed { (n0 : Parts) → IsFresh n0 player.old → IsErrOf result PlayFault.SinkFailed → IsHistory n0 0 player.new.session.history player.new.marks }
+    ensures played { (n0 : Parts) → IsFresh n0 player.old → OnOk result ((text : List ℕ) × (IsPlayed n0 [] content.now 0 (entries_of player.new) player.new.marks text × AppendsAll (K.written sink.old) text (K.written sink.new))) }
+    ensures failed { (n0 : Parts) → IsFresh n0 player.old → IsErrOf result PlayFault.SinkFailed → IsHistory n0 0 (entries_of player.new) player.new.marks }
     ensures counts { K.faults sink.old ≤ K.faults sink.new }
     ensures rose { IsErrOf result PlayFault.SinkFailed → Rose (K.faults sink.old) (K.faults sink.new) }
 {
     let names = content.names.as_slice();
     let lines = content.lines.as_slice();
-    match play_lines(rt, alloc, player, names, lines, sink) {
-        Ok(()) => play_end(rt, alloc, player, sink),
+    match play_lines(rt, player, names, lines, sink) {
+        Ok(()) => play_end(rt, player, sink),
         Err(fault) => Err(fault),
     }
 }
 
 /// Plays the end: it settles and leaves a mark.
-fn play_end<R: Wait, K: Sink>(
-    rt: &R,
-    alloc: Global,
-    player: &mut Player,
-    sink: &mut K,
-) -> Result<(), PlayFault>
+fn play_end<R: Wait, K: Sink>(rt: &R, player: &mut Player, sink: &mut K) -> Result<(), PlayFault>
     ensures played { (n0 : Parts) → IsSession n0 player.old.session → OnOk result (EndsWritten n0 player.old player.new (K.written sink.old) (K.written sink.new)) }
     ensures failed { (n0 : Parts) → IsSession n0 player.old.session → IsErrOf result PlayFault.SinkFailed → HasEnded n0 player.old player.new }
     ensures counts { K.faults sink.old ≤ K.faults sink.new }
     ensures rose { IsErrOf result PlayFault.SinkFailed → Rose (K.faults sink.old) (K.faults sink.new) }
 {
-    match end_text(rt, alloc, player) {
+    match end_text(rt, player) {
         Ok(text) => write_piece(sink, text.as_str()),
         Err(_) => Err(PlayFault::OutOfMemory),
     }
@@ -123,19 +117,18 @@ fn play_end<R: Wait, K: Sink>(
 /// Plays lines one after the other; what each prints is one write.
 fn play_lines<R: Wait, K: Sink>(
     rt: &R,
-    alloc: Global,
     player: &mut Player,
     names: &[Text],
     lines: &[ScriptLine],
     sink: &mut K,
 ) -> Result<(), PlayFault>
-    ensures played { (n0 : Parts) → (s : Stage) → (edited : Bool) → Stands (record { opening = n0; names = names.now }) player.old s → MayFollow edited player.old.client lines.now → Waits edited player.old.client → OnOk result (IsOnTheWay (record { opening = n0; names = names.now }) lines.now [] player.old player.new s (K.written sink.old) (K.written sink.new)) }
-    ensures failed { (n0 : Parts) → (s : Stage) → (edited : Bool) → Stands (record { opening = n0; names = names.now }) player.old s → MayFollow edited player.old.client lines.now → Waits edited player.old.client → IsErrOf result PlayFault.SinkFailed → IsHistory n0 0 player.new.session.history player.new.marks }
+    ensures played { (n0 : Parts) (s : Stage) → Stands (record { opening = n0; names = names.now }) player.old s → OnOk result (HavePlayed (record { opening = n0; names = names.now }) lines.now [] player.old player.new s (K.written sink.old) (K.written sink.new)) }
+    ensures failed { (n0 : Parts) (s : Stage) → Stands (record { opening = n0; names = names.now }) player.old s → IsErrOf result PlayFault.SinkFailed → IsHistory n0 0 (entries_of player.new) player.new.marks }
     ensures counts { K.faults sink.old ≤ K.faults sink.new }
     ensures rose { IsErrOf result PlayFault.SinkFailed → Rose (K.faults sink.old) (K.faults sink.new) }
 {
     for line in lines {
-        let piece = line_text(rt, alloc, player, names, line)?;
+        let piece = line_text(rt, player, names, line)?;
         match write_piece(sink, piece.as_str()) {
             Ok(()) => {}
             Err(fault) => return Err(fault),
@@ -147,45 +140,41 @@ fn play_lines<R: Wait, K: Sink>(
 /// What a line prints.
 fn line_text<R: Wait>(
     rt: &R,
-    alloc: Global,
     player: &mut Player,
     names: &[Text],
     line: &ScriptLine,
 ) -> Result<String, PlayFault>
-    ensures played { (n0 : Parts) → (s : Stage) → (edited : Bool) → Stands (record { opening = n0; names = names.now }) player.old s → IsReady edited player.old.client line.now → Waits edited player.old.client → IfOk result (λ piece. HasPlayed (record { opening = n0; names = names.now }) line.now player.old player.new s [] (string_bytes piece) × Waits (after_line line.now edited) player.new.client) }
+    ensures played { (n0 : Parts) (s : Stage) → Stands (record { opening = n0; names = names.now }) player.old s → IfOk result (λ piece. HasPlayed (record { opening = n0; names = names.now }) line.now player.old player.new s [] (string_bytes piece)) }
     ensures memory { OnErr result (IsErrOf result PlayFault.OutOfMemory) }
 {
-    match player.line(rt, alloc, names, line) {
+    match player.line(rt, names, line) {
         Ok(piece) => Ok(piece),
         Err(_) => Err(PlayFault::OutOfMemory),
     }
 }
 
 /// What the end prints, after it settled and left a mark.
-fn end_text<R: Wait>(rt: &R, alloc: Global, player: &mut Player) -> Result<String, AllocError>
-    ensures { (n0 : Parts) → IsSession n0 player.old.session → IfOk result (λ t. HasEnded n0 player.old player.new × (string_bytes t ≡ as_text (end_lines (state n0 player.new.session.history)))) }
+fn end_text<R: Wait>(rt: &R, player: &mut Player) -> Result<String, AllocError>
+    ensures { (n0 : Parts) → IsSession n0 player.old.session → IfOk result (λ t. HasEnded n0 player.old player.new × (string_bytes t ≡ as_text (end_lines (state n0 (entries_of player.new))))) }
 {
-    player.session.settle(rt, 1)?;
+    settle(rt, player.alloc, &mut player.session, 1)?;
     player.look()?;
-    let text = end_of(alloc, player)?;
+    let text = end_of(player)?;
     Ok(text)
 }
 
-fn end_of(alloc: Global, player: &Player) -> Result<String, AllocError>
-    ensures { (n0 : Parts) → IsSession n0 player.now.session → IfOk result (λ t. string_bytes t ≡ as_text (end_lines (state n0 player.now.session.history))) }
+fn end_of(player: &Player) -> Result<String, AllocError>
+    ensures { (n0 : Parts) → IsSession n0 player.now.session → IfOk result (λ t. string_bytes t ≡ as_text (end_lines (state n0 (entries_of player.now)))) }
 {
-    let mut out = String::new(alloc);
+    let mut out = String::new(player.alloc);
     push_plain(&mut out, "end\n")?;
-    push_book(
-        &mut out,
-        &player.session.book,
-        player.session.revs.as_slice(),
-    )?;
+    let snapshot = player.session.snapshot()?;
+    push_book(&mut out, &snapshot.book, snapshot.revs.as_slice())?;
     push_statuses(
         &mut out,
-        alloc,
-        player.session.book.parts(),
-        &player.session.lane,
+        player.alloc,
+        player.session.book().parts(),
+        &player.session,
     )?;
     Ok(out)
 }

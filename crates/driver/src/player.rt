@@ -1,43 +1,47 @@
-//! The player: it plays the lines of a script over the session and the client, and prints.
-ghost use Rattle.std.specs.Prelude.{◌≡◌, ℕ, ◌∷◌, [], ◌++◌, OnOk, IfOk, None, List, Bool, slice_get, length, string_bytes, false};
+//! The player: it plays the lines of a script over the session and the clients, and prints.
+ghost use Rattle.std.specs.Prelude.{◌≡◌, ℕ, ◌+◌, ◌∷◌, [], ◌++◌, OnOk, IfOk, List, map, slice_get, length, string_bytes};
+ghost use Rattle.std.specs.Str.{encode_utf8_all};
 ghost use Rattle.notebook.specs.declared.parts.Parts.{Parts};
-ghost use Rattle.session_ops.specs.declared.entry.Entry.{Entry};
-ghost use Rattle.client_sync.specs.Client.{Client as Holder};
 ghost use Rattle.notebook.specs.Flow.{IsUnbranched};
-ghost use Rattle.session_ops.specs.State.{state};
-ghost use Rattle.script.specs.declared.line.ScriptLine.TheVariants.{Join, Edit, Post, Sync, Show, Settle, Cells};
+ghost use Rattle.session_ops.specs.declared.entry.Call.TheVariants.{Client as ByClient};
+ghost use Rattle.script.specs.declared.line.ScriptLine.TheVariants.{Join, Edit, Post, Send, Recv, Sync, Show, Pending, Settle, Cells};
+ghost use Rattle.session_core.specs.Session.{IsSession};
+ghost use Rattle.client_sync.specs.Client.{Client as Holder, with_message};
+ghost use Rattle.client_sync.specs.Stands.{Mirrors, IsPostable, number_in};
 ghost use Rattle.transcript.specs.Texts.{as_text};
 ghost use Rattle.driver.specs.Lines.{posted_words};
-ghost use Rattle.std.specs.Str.{encode_utf8_all};
-ghost use Rattle.driver.specs.Player.{Game, Stage, name_of, or_no_name, op_of};
-ghost use Rattle.driver.specs.Session.{IsSession, IsCurrent};
-ghost use Rattle.driver.specs.Holder.{Mirrors, flights};
-ghost use Rattle.driver.specs.Playing.{IsReady};
-ghost use Rattle.driver.specs.Standing.{Stands, Waits, after_line, HasPlayed, HasEdited, MaySend, HasAnsweredOne, HasSent, HasExchanged, HasExchangedAny, with_outbox};
+ghost use Rattle.session_ops.specs.State.{Legal};
+ghost use Rattle.world.specs.Waiting.{IsHonest};
+ghost use Rattle.driver.specs.Player.{Game, Stage, name_of, or_no_name, op_of, how_many, send_next, send_many, send_all, send_each, send_or_nothing};
+ghost use Rattle.driver.specs.Standing.{Stands, HasPlayed, HasDone, HasAsked, HasRound, HasAdmitted, HasEdited, HasReceivedSome, entries_of};
+ghost use Rattle.driver.specs.Ends.{IsFresh};
 
-use crate::client::Client;
+use crate::clients::{all_sent, deliver, deliver_all, place_of};
 use crate::lines::{
-    push_edit_refused, push_edited, push_joined, push_no_client, push_not_joined, push_posted,
-    push_sent, push_sync,
+    push_edit_refused, push_edited, push_joined, push_no_client, push_not_joined,
+    push_nothing_sent, push_pending, push_posted, push_received, push_sent, push_sync,
 };
-use crate::session::Session;
+use crate::settling::settle;
 use crate::statuses::push_statuses;
+use client_sync::Client;
 use delta::Delta;
 use notebook::{CellId, Notebook};
 use plain_list::Items;
-use script::{PostedOp, ScriptLine};
-use session_ops::{Op, Reply};
+use script::{Count, PostedOp, ScriptLine};
+use session_core::Session;
+use session_ops::{Entry, Op, Reply};
 use std::alloc::{AllocError, Global};
 use std::sync::Wait;
 use transcript::{push_book, push_plain};
 use utf16_text::Text;
 
-/// The session, its one client once it has joined, and the marks: for each turn that made no entry,
-/// the history's length that it found.
+/// The session, its clients in the order of their joining, and the marks: for each turn that made no
+/// entry, the history's length that it found.
 #[derive(Drop)]
 pub(crate) struct Player {
+    pub(crate) alloc: Global,
     pub(crate) session: Session,
-    pub(crate) client: Option<Client>,
+    pub(crate) clients: Vec<Client>,
     pub(crate) marks: Items<u64>,
 }
 
@@ -45,11 +49,12 @@ impl Player {
     /// A player before the first line.
     pub(crate) fn new(alloc: Global, book: Notebook) -> Result<Player, AllocError>
         requires { IsUnbranched book }
-        ensures { IfOk result (λ p. IsSession book p.session × ((p.session.history ≡ []) × ((p.client ≡ None) × (p.marks ≡ [])))) }
+        ensures { IfOk result (IsFresh book) }
     {
         Ok(Player {
+            alloc,
             session: Session::new(alloc, book)?,
-            client: None,
+            clients: Vec::new(alloc),
             marks: Items::new(alloc),
         })
     }
@@ -58,13 +63,12 @@ impl Player {
     pub(crate) fn line<R: Wait>(
         &mut self,
         rt: &R,
-        alloc: Global,
         names: &[Text],
         line: &ScriptLine,
     ) -> Result<String, AllocError>
-        ensures { (n0 : Parts) → (s : Stage) → (edited : Bool) → Stands (record { opening = n0; names = names.now }) self.old s → IsReady edited self.old.client line.now → Waits edited self.old.client → IfOk result (λ piece. HasPlayed (record { opening = n0; names = names.now }) line.now self.old self.new s [] (string_bytes piece) × Waits (after_line line.now edited) self.new.client) }
+        ensures { (n0 : Parts) (s : Stage) → Stands (record { opening = n0; names = names.now }) self.old s → IfOk result (λ piece. HasPlayed (record { opening = n0; names = names.now }) line.now self.old self.new s [] (string_bytes piece)) }
     {
-        let mut out = String::new(alloc);
+        let mut out = String::new(self.alloc);
         match line {
             ScriptLine::Join { client } => {
                 self.join(name_in(names, *client), *client, &mut out)?;
@@ -79,17 +83,26 @@ impl Player {
             ScriptLine::Post { client, op } => {
                 self.post(name_in(names, *client), *client, *op, &mut out)?;
             }
+            ScriptLine::Send { client, count } => {
+                self.send(name_in(names, *client), *client, *count, &mut out)?;
+            }
+            ScriptLine::Recv { client, count } => {
+                self.recv(name_in(names, *client), *client, *count, &mut out)?;
+            }
             ScriptLine::Sync => {
-                self.sync(name_in(names, 0), &mut out)?;
+                self.sync(rt, names, &mut out)?;
             }
             ScriptLine::Show { client } => {
                 self.show(name_in(names, *client), *client, &mut out)?;
+            }
+            ScriptLine::Pending { client, cell } => {
+                self.pending(name_in(names, *client), *client, *cell, &mut out)?;
             }
             ScriptLine::Settle => {
                 self.settle(rt, &mut out)?;
             }
             ScriptLine::Cells => {
-                self.cells(alloc, &mut out)?;
+                self.cells(&mut out)?;
             }
         }
         Ok(out)
@@ -102,18 +115,26 @@ impl Player {
         client: u32,
         out: &mut String,
     ) -> Result<(), AllocError>
-        ensures played { (g : Game) → (s : Stage) → name.now ≡ name_of g client → Stands g self.old s → self.old.client ≡ None → client ≡ 0 → OnOk result (HasPlayed g (Join client) self.old self.new s (string_bytes out.old) (string_bytes out.new)) }
-        ensures waits { OnOk result (self.old.client ≡ None → Waits false self.new.client) }
+        ensures { (g : Game) (s : Stage) → name.now ≡ name_of g client → Stands g self.old s → OnOk result (HasPlayed g (Join client) self.old self.new s (string_bytes out.old) (string_bytes out.new)) }
     {
-        let reply = self.session.join(0, client)?;
+        let reply = self.session.apply(0, client, Op::Join)?;
         match reply {
             Reply::Accepted => {
-                let own = Client::join(&self.session, client)?;
-                self.client = Some(own);
-                push_joined(out, name, self.session.history.len() as u64)?;
+                self.admit(client)?;
+                push_joined(out, name, self.session.history().len() as u64)?;
             }
             other => push_not_joined(out, name, &other)?,
         }
+        Ok(())
+    }
+
+    /// Makes a client that has just joined.
+    fn admit(&mut self, client: u32) -> Result<(), AllocError>
+        ensures { (n0 : Parts) → IsSession n0 self.old.session → OnOk result (HasAdmitted n0 client self.old self.new) }
+    {
+        let snapshot = self.session.snapshot()?;
+        let own = Client::join(self.alloc, client, snapshot)?;
+        self.clients.push(own)?;
         Ok(())
     }
 
@@ -126,11 +147,11 @@ impl Player {
         delta: &Delta,
         out: &mut String,
     ) -> Result<(), AllocError>
-        ensures played { (g : Game) → (s : Stage) → name.now ≡ name_of g client → Stands g self.old s → Waits false self.old.client → client ≡ 0 → OnOk result (HasPlayed g (Edit client cell delta.now) self.old self.new s (string_bytes out.old) (string_bytes out.new)) }
+        ensures { (g : Game) (s : Stage) → name.now ≡ name_of g client → Stands g self.old s → OnOk result (HasPlayed g (Edit client cell delta.now) self.old self.new s (string_bytes out.old) (string_bytes out.new)) }
     {
-        match &mut self.client {
+        match place_of(&self.clients, client) {
             None => push_no_client(out, name, "edit")?,
-            Some(own) => edit_own(own, name, cell, delta, out)?,
+            Some(at) => edit_own(&mut self.clients[at], name, cell, delta, out)?,
         }
         Ok(())
     }
@@ -143,53 +164,188 @@ impl Player {
         op: PostedOp,
         out: &mut String,
     ) -> Result<(), AllocError>
-        ensures played { (g : Game) → (s : Stage) → name.now ≡ name_of g client → Stands g self.old s → client ≡ 0 → OnOk result (HasPlayed g (Post client op) self.old self.new s (string_bytes out.old) (string_bytes out.new)) }
-        ensures waits { (edited : Bool) → Waits edited self.old.client → OnOk result (Waits edited self.new.client) }
+        ensures { (g : Game) (s : Stage) → name.now ≡ name_of g client → Stands g self.old s → OnOk result (HasPlayed g (Post client op) self.old self.new s (string_bytes out.old) (string_bytes out.new)) }
     {
-        match &mut self.client {
+        match place_of(&self.clients, client) {
             None => push_no_client(out, name, "post")?,
-            Some(own) => post_own(own, name, op, out)?,
+            Some(at) => post_own(&mut self.clients[at], name, op, out)?,
         }
         Ok(())
     }
 
-    /// `settle`.
-    pub(crate) fn settle<R: Wait>(&mut self, rt: &R, out: &mut String) -> Result<(), AllocError>
-        ensures played { (g : Game) → (s : Stage) → Stands g self.old s → OnOk result (HasPlayed g Settle self.old self.new s (string_bytes out.old) (string_bytes out.new)) }
-        ensures client { OnOk result (self.new.client ≡ self.old.client) }
+    /// `send NAME COUNT`.
+    pub(crate) fn send(
+        &mut self,
+        name: &str,
+        client: u32,
+        count: Count,
+        out: &mut String,
+    ) -> Result<(), AllocError>
+        ensures { (g : Game) (s : Stage) → name.now ≡ name_of g client → Stands g self.old s → OnOk result (HasPlayed g (Send client count) self.old self.new s (string_bytes out.old) (string_bytes out.new)) }
     {
-        self.session.settle(rt, 1)?;
-        self.look()?;
-        push_plain(out, "settled\n")?;
+        match place_of(&self.clients, client) {
+            None => push_no_client(out, name, "send")?,
+            Some(at) => {
+                let many = how_many(count, self.clients[at].outbox_len());
+                self.send_or_nothing(name, client, many, out)?;
+            }
+        }
         Ok(())
     }
 
-    /// `cells`.
-    pub(crate) fn cells(&mut self, alloc: Global, out: &mut String) -> Result<(), AllocError>
-        ensures played { (g : Game) → (s : Stage) → Stands g self.old s → OnOk result (HasPlayed g Cells self.old self.new s (string_bytes out.old) (string_bytes out.new)) }
-        ensures client { OnOk result (self.new.client ≡ self.old.client) }
+    /// Sends so many messages of a client, or says that there is nothing to send.
+    fn send_or_nothing(
+        &mut self,
+        name: &str,
+        client: u32,
+        many: u64,
+        out: &mut String,
+    ) -> Result<(), AllocError>
+        ensures { (g : Game) (s : Stage) → name.now ≡ name_of g client → Stands g self.old s → OnOk result (HasDone g (send_or_nothing g client many) self.old self.new s (string_bytes out.old) (string_bytes out.new)) }
     {
-        self.look()?;
-        push_statuses(out, alloc, self.session.book.parts(), &self.session.lane)?;
+        if many == 0 {
+            push_nothing_sent(out, name)?;
+            return Ok(());
+        }
+        self.send_many(name, client, many, out)?;
+        Ok(())
+    }
+
+    /// Sends so many messages of a client, one after the other.
+    fn send_many(
+        &mut self,
+        name: &str,
+        client: u32,
+        many: u64,
+        out: &mut String,
+    ) -> Result<(), AllocError>
+        ensures { (g : Game) (s : Stage) → name.now ≡ name_of g client → Stands g self.old s → OnOk result (HasDone g (send_many many g client) self.old self.new s (string_bytes out.old) (string_bytes out.new)) }
+    {
+        for _ in 0..many {
+            self.send_next(name, client, out)?;
+        }
+        Ok(())
+    }
+
+    /// Sends the message at the front of a client's outbox, if there is one.
+    fn send_next(&mut self, name: &str, client: u32, out: &mut String) -> Result<(), AllocError>
+        ensures { (g : Game) (s : Stage) → name.now ≡ name_of g client → Stands g self.old s → OnOk result (HasDone g (send_next g client) self.old self.new s (string_bytes out.old) (string_bytes out.new)) }
+    {
+        let Some(at) = place_of(&self.clients, client) else {
+            return Ok(());
+        };
+        match self.clients[at].take_front() {
+            None => Ok(()),
+            Some(op) => {
+                self.ask(name, client, op, out)?;
+                Ok(())
+            }
+        }
+    }
+
+    /// Makes a client's call, and prints its answer as that to a message.
+    fn ask(&mut self, name: &str, client: u32, op: Op, out: &mut String) -> Result<(), AllocError>
+        ensures { (n0 : Parts) → IsSession n0 self.old.session → OnOk result (HasAsked n0 (ByClient client op) name.now self.old self.new (string_bytes out.old) (string_bytes out.new)) }
+    {
+        let reply = self.session.apply(0, client, op)?;
+        push_sent(out, name, &reply)?;
+        Ok(())
+    }
+
+    /// `recv NAME COUNT`.
+    pub(crate) fn recv(
+        &mut self,
+        name: &str,
+        client: u32,
+        count: Count,
+        out: &mut String,
+    ) -> Result<(), AllocError>
+        ensures { (g : Game) (s : Stage) → name.now ≡ name_of g client → Stands g self.old s → OnOk result (HasPlayed g (Recv client count) self.old self.new s (string_bytes out.old) (string_bytes out.new)) }
+    {
+        match place_of(&self.clients, client) {
+            None => push_no_client(out, name, "recv")?,
+            Some(at) => {
+                self.look()?;
+                let history = self.session.history();
+                receive_own(history, &mut self.clients[at], count, name, out)?;
+            }
+        }
         Ok(())
     }
 
     /// `sync`.
-    pub(crate) fn sync(&mut self, name: &str, out: &mut String) -> Result<(), AllocError>
-        ensures played { (g : Game) → (s : Stage) → name.now ≡ name_of g 0 → Stands g self.old s → OnOk result (HasPlayed g Sync self.old self.new s (string_bytes out.old) (string_bytes out.new)) }
-        ensures waits { OnOk result (Waits false self.new.client) }
+    pub(crate) fn sync<R: Wait>(
+        &mut self,
+        rt: &R,
+        names: &[Text],
+        out: &mut String,
+    ) -> Result<(), AllocError>
+        ensures { (n0 : Parts) (s : Stage) → Stands (record { opening = n0; names = names.now }) self.old s → OnOk result (HasPlayed (record { opening = n0; names = names.now }) Sync self.old self.new s (string_bytes out.old) (string_bytes out.new)) }
     {
-        exchange_any(&mut self.session, &mut self.client, name, out)?;
+        for _ in rt.forever() {
+            let at = self.round(names, out)?;
+            if all_sent(&self.clients) {
+                push_sync(out, at)?;
+                return Ok(());
+            }
+        }
+        unreachable!()
+    }
+
+    /// A round of `sync`: every client sends all, and then receives all. It gives the history's length.
+    fn round(&mut self, names: &[Text], out: &mut String) -> Result<u64, AllocError>
+        ensures { (n0 : Parts) (s : Stage) → Stands (record { opening = n0; names = names.now }) self.old s → IfOk result (λ at. HasRound (record { opening = n0; names = names.now }) self.old self.new s at (string_bytes out.old) (string_bytes out.new)) }
+    {
+        let numbers = self.numbers()?;
+        self.send_each(names, numbers.as_slice(), out)?;
         let at = self.look()?;
-        push_sync(out, at)?;
+        deliver_all(self.session.history(), &mut self.clients)?;
+        Ok(at)
+    }
+
+    /// The clients' numbers, in the order of joining.
+    fn numbers(&self) -> Result<Vec<u32>, AllocError>
+        ensures { IfOk result (λ numbers. numbers.items ≡ map number_in self.now.clients.items) }
+    {
+        let mut numbers = Vec::new(self.alloc);
+        for client in self.clients.iter() {
+            numbers.push(client.number())?;
+        }
+        Ok(numbers)
+    }
+
+    /// Each of these clients sends all that stands in its outbox.
+    fn send_each(
+        &mut self,
+        names: &[Text],
+        numbers: &[u32],
+        out: &mut String,
+    ) -> Result<(), AllocError>
+        ensures { (n0 : Parts) (s : Stage) → Stands (record { opening = n0; names = names.now }) self.old s → OnOk result (HasDone (record { opening = n0; names = names.now }) (send_each (record { opening = n0; names = names.now }) numbers.now) self.old self.new s (string_bytes out.old) (string_bytes out.new)) }
+    {
+        for number in numbers {
+            self.send_all(name_in(names, *number), *number, out)?;
+        }
+        Ok(())
+    }
+
+    /// A client sends all that stands in its outbox.
+    fn send_all(&mut self, name: &str, client: u32, out: &mut String) -> Result<(), AllocError>
+        ensures { (g : Game) (s : Stage) → name.now ≡ name_of g client → Stands g self.old s → OnOk result (HasDone g (send_all g client) self.old self.new s (string_bytes out.old) (string_bytes out.new)) }
+    {
+        let Some(at) = place_of(&self.clients, client) else {
+            return Ok(());
+        };
+        let many = self.clients[at].outbox_len();
+        self.send_many(name, client, many, out)?;
         Ok(())
     }
 
     /// A turn that makes no entry: it leaves a mark, which is the history's length.
     pub(crate) fn look(&mut self) -> Result<u64, AllocError>
-        ensures { IfOk result (λ at. (at ≡ length self.old.session.history) × (self.new ≡ record self.old { marks = self.old.marks ++ at ∷ [] })) }
+        ensures { IfOk result (λ at. (at ≡ length (entries_of self.old)) × (self.new ≡ record self.old { marks = self.old.marks ++ at ∷ [] })) }
     {
-        let at = self.session.history.len() as u64;
+        let at = self.session.history().len() as u64;
         self.marks.push(at)?;
         Ok(at)
     }
@@ -201,13 +357,54 @@ impl Player {
         client: u32,
         out: &mut String,
     ) -> Result<(), AllocError>
-        ensures played { (g : Game) → (s : Stage) → name.now ≡ name_of g client → Stands g self.old s → client ≡ 0 → OnOk result (HasPlayed g (Show client) self.old self.new s (string_bytes out.old) (string_bytes out.new)) }
-        ensures same { self.new ≡ self.old }
+        ensures { (g : Game) (s : Stage) → name.now ≡ name_of g client → Stands g self.old s → OnOk result (HasPlayed g (Show client) self.old self.new s (string_bytes out.old) (string_bytes out.new)) }
     {
-        match &self.client {
+        match place_of(&self.clients, client) {
             None => push_no_client(out, name, "show")?,
-            Some(own) => push_book(out, &own.book, own.revs.as_slice())?,
+            Some(at) => {
+                let own = &self.clients[at];
+                push_book(out, own.book(), own.revs())?;
+            }
         }
+        Ok(())
+    }
+
+    /// `pending NAME CELL`.
+    pub(crate) fn pending(
+        &mut self,
+        name: &str,
+        client: u32,
+        cell: CellId,
+        out: &mut String,
+    ) -> Result<(), AllocError>
+        ensures { (g : Game) (s : Stage) → name.now ≡ name_of g client → Stands g self.old s → OnOk result (HasPlayed g (Pending client cell) self.old self.new s (string_bytes out.old) (string_bytes out.new)) }
+    {
+        match place_of(&self.clients, client) {
+            None => push_no_client(out, name, "pending")?,
+            Some(at) => {
+                let own = &self.clients[at];
+                push_pending(out, name, cell, own.pending(cell), own.outbox_len())?;
+            }
+        }
+        Ok(())
+    }
+
+    /// `settle`.
+    pub(crate) fn settle<R: Wait>(&mut self, rt: &R, out: &mut String) -> Result<(), AllocError>
+        ensures { (g : Game) (s : Stage) → Stands g self.old s → OnOk result (HasPlayed g Settle self.old self.new s (string_bytes out.old) (string_bytes out.new)) }
+    {
+        settle(rt, self.alloc, &mut self.session, 1)?;
+        self.look()?;
+        push_plain(out, "settled\n")?;
+        Ok(())
+    }
+
+    /// `cells`.
+    pub(crate) fn cells(&mut self, out: &mut String) -> Result<(), AllocError>
+        ensures { (g : Game) (s : Stage) → Stands g self.old s → OnOk result (HasPlayed g Cells self.old self.new s (string_bytes out.old) (string_bytes out.new)) }
+    {
+        self.look()?;
+        push_statuses(out, self.alloc, self.session.book().parts(), &self.session)?;
         Ok(())
     }
 }
@@ -220,7 +417,7 @@ fn edit_own(
     delta: &Delta,
     out: &mut String,
 ) -> Result<(), AllocError>
-    ensures { (n0 : Parts) → (h : List Entry) → (m : Holder) → Mirrors n0 h own.old m → flights own.old.outbox ≡ [] → OnOk result (HasEdited n0 h name.now cell delta.now own.old own.new m (string_bytes out.old) (string_bytes out.new)) }
+    ensures { (n0 : Parts) (m : Holder) → Mirrors n0 own.old m → OnOk result (HasEdited n0 name.now cell delta.now own.new m (string_bytes out.old) (string_bytes out.new)) }
 {
     match own.edit(cell, delta) {
         Ok(()) => push_edited(out, name, cell)?,
@@ -231,7 +428,7 @@ fn edit_own(
 
 /// An operation of the client's own, and what is printed of it.
 fn post_own(own: &mut Client, name: &str, op: PostedOp, out: &mut String) -> Result<(), AllocError>
-    ensures posted { OnOk result (own.new ≡ with_outbox own.old (own.old.outbox ++ op_of op ∷ [])) }
+    ensures posted { (n0 : Parts) (m : Holder) → Mirrors n0 own.old m → OnOk result (Mirrors n0 own.new (with_message m (op_of op))) }
     ensures printed { OnOk result (string_bytes out.new ≡ string_bytes out.old ++ as_text (posted_words name.now ∷ [])) }
 {
     own.post(op_of(op))?;
@@ -239,80 +436,40 @@ fn post_own(own: &mut Client, name: &str, op: PostedOp, out: &mut String) -> Res
     Ok(())
 }
 
+/// Entries that the client receives, and what is printed of them.
+fn receive_own(
+    history: &[Entry],
+    own: &mut Client,
+    count: Count,
+    name: &str,
+    out: &mut String,
+) -> Result<(), AllocError>
+    ensures { (g : Game) (m : Holder) → Legal g.opening history.now → IsHonest g.opening history.now m → Mirrors g.opening own.old m → OnOk result (HasReceivedSome g count history.now m own.new name.now (string_bytes out.old) (string_bytes out.new)) }
+{
+    let unseen = (history.len() as u64).saturating_sub(own.cursor());
+    deliver(history, own, how_many(count, unseen))?;
+    push_received(out, name, own.cursor())?;
+    Ok(())
+}
+
 /// The call that a posted operation makes.
 fn op_of(op: PostedOp) -> Op
-    ensures { result ≡ op_of op }
+    ensures op { result ≡ op_of op }
+    ensures postable { IsPostable result }
 {
     match op {
         PostedOp::Queue { cell } => Op::Queue { cell },
     }
 }
 
-/// What waits in the client's outbox, if there is a client, goes to the server and comes back.
-fn exchange_any(
-    session: &mut Session,
-    client: &mut Option<Client>,
-    name: &str,
-    out: &mut String,
-) -> Result<(), AllocError>
-    ensures exchanged { (g : Game) (marks : List ℕ) → name.now ≡ name_of g 0 → OnOk result (HasExchangedAny client.old client.new g marks session.old session.new (string_bytes out.old) (string_bytes out.new)) }
-    ensures nothing { OnOk result (Waits false client.new) }
+/// So many, or all where there are fewer.
+fn how_many(count: Count, there: u64) -> u64
+    ensures { result ≡ how_many count there }
 {
-    match client {
-        None => {}
-        Some(own) => exchange(session, own, name, out)?,
+    match count {
+        Count::AtMost(most) => most.min(there),
+        Count::All => there,
     }
-    Ok(())
-}
-
-/// What waits in the client's outbox goes to the server and comes back.
-fn exchange(
-    session: &mut Session,
-    own: &mut Client,
-    name: &str,
-    out: &mut String,
-) -> Result<(), AllocError>
-    ensures exchanged { (g : Game) (marks : List ℕ) (m : Holder) (s : Stage) → name.now ≡ name_of g 0 → MaySend g marks m s session.old own.old → OnOk result (HasExchanged g marks m s session.old session.new own.old own.new (string_bytes out.old) (string_bytes out.new)) }
-    ensures nothing { OnOk result (own.new.outbox ≡ []) }
-{
-    let outbox = own.take_outbox();
-    send_all(session, own, name, outbox.as_slice(), out)?;
-    Ok(())
-}
-
-/// Sends messages, one after the other.
-fn send_all(
-    session: &mut Session,
-    own: &mut Client,
-    name: &str,
-    ops: &[Op],
-    out: &mut String,
-) -> Result<(), AllocError>
-    ensures sent { (g : Game) (marks : List ℕ) (m : Holder) (s : Stage) → name.now ≡ name_of g 0 → own.old.outbox ≡ [] → MaySend g marks m s session.old (with_outbox own.old ops.now) → OnOk result (HasSent g marks ops.now [] m s session.old session.new own.new (string_bytes out.old) (string_bytes out.new)) }
-    ensures nothing { OnOk result (own.new.outbox ≡ own.old.outbox) }
-{
-    for op in ops {
-        send(session, own, name, op, out)?;
-    }
-    Ok(())
-}
-
-/// Sends a message.
-fn send(
-    session: &mut Session,
-    own: &mut Client,
-    name: &str,
-    op: &Op,
-    out: &mut String,
-) -> Result<(), AllocError>
-    ensures sent { (n0 : Parts) → IsSession n0 session.old → IsCurrent (state n0 session.old.history) op.now → OnOk result (HasAnsweredOne n0 op.now session.old session.new own.old own.new name.now (string_bytes out.old) (string_bytes out.new)) }
-    ensures nothing { own.new.outbox ≡ own.old.outbox }
-{
-    let call = op.copy(session.alloc)?;
-    let reply = session.call(0, own.number, call)?;
-    own.confirm(op, &reply);
-    push_sent(out, name, &reply)?;
-    Ok(())
 }
 
 /// A client's name; the empty text where there is none.

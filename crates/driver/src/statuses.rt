@@ -3,12 +3,11 @@ ghost use Rattle.std.specs.Prelude.{◌≡◌, ◌++◌, OnOk, string_bytes};
 ghost use Rattle.notebook.specs.declared.parts.Parts.{Parts as PartsValue};
 ghost use Rattle.notebook.specs.Flow.{section_lane};
 ghost use Rattle.session_ops.specs.Work.{Work};
-ghost use Rattle.main_lane.specs.Tracks.{Tracks};
 ghost use Rattle.transcript.specs.Texts.{as_text, ended_line};
-ghost use Rattle.driver.specs.Statuses.{HasPath, HasPathIfCode, AllHavePaths, AllSectionsHavePaths, cell_line, line_of_kind, code_lines, section_code_lines, setup_line, status_lines};
+ghost use Rattle.driver.specs.Statuses.{Tells, HasPath, HasPathIfCode, AllHavePaths, AllSectionsHavePaths, cell_line, line_of_kind, code_lines, section_code_lines, setup_line, status_lines};
 
-use main_lane::{MainLane, Row};
 use notebook::{Cell, CellId, Kind, Lane, Parts, Section};
+use session_core::{Row, Session};
 use std::alloc::{AllocError, Global};
 use transcript::push_state;
 
@@ -17,12 +16,12 @@ pub(crate) fn push_statuses(
     out: &mut String,
     alloc: Global,
     book: &Parts,
-    lane: &MainLane,
+    session: &Session,
 ) -> Result<(), AllocError>
-    ensures { (w : Work) → Tracks book.now w lane.now → OnOk result (string_bytes out.new ≡ string_bytes out.old ++ as_text (status_lines book.now w)) }
+    ensures { (w : Work) → Tells book.now w session.now → OnOk result (string_bytes out.new ≡ string_bytes out.old ++ as_text (status_lines book.now w)) }
 {
-    push_setup(out, alloc, &book.setup, lane)?;
-    push_sections(out, alloc, book.sections.as_slice(), lane)?;
+    push_setup(out, alloc, &book.setup, session)?;
+    push_sections(out, alloc, book.sections.as_slice(), session)?;
     Ok(())
 }
 
@@ -31,14 +30,14 @@ fn push_setup(
     out: &mut String,
     alloc: Global,
     setup: &Cell,
-    lane: &MainLane,
+    session: &Session,
 ) -> Result<(), AllocError>
-    ensures { (n : PartsValue) (w : Work) → Tracks n w lane.now → HasPath n setup.now.id → OnOk result (string_bytes out.new ≡ string_bytes out.old ++ as_text (setup_line n w setup.now)) }
+    ensures { (n : PartsValue) (w : Work) → Tells n w session.now → HasPath n setup.now.id → OnOk result (string_bytes out.new ≡ string_bytes out.old ++ as_text (setup_line n w setup.now)) }
 {
     if setup.source.is_empty() {
         return Ok(());
     }
-    push_cell(out, alloc, setup.id, Lane::Main, lane)?;
+    push_cell(out, alloc, setup.id, Lane::Main, session)?;
     Ok(())
 }
 
@@ -46,12 +45,12 @@ fn push_sections(
     out: &mut String,
     alloc: Global,
     sections: &[Section],
-    lane: &MainLane,
+    session: &Session,
 ) -> Result<(), AllocError>
-    ensures { (n : PartsValue) (w : Work) → Tracks n w lane.now → AllSectionsHavePaths n sections.now → OnOk result (string_bytes out.new ≡ string_bytes out.old ++ as_text (section_code_lines n w sections.now)) }
+    ensures { (n : PartsValue) (w : Work) → Tells n w session.now → AllSectionsHavePaths n sections.now → OnOk result (string_bytes out.new ≡ string_bytes out.old ++ as_text (section_code_lines n w sections.now)) }
 {
     for section in sections {
-        push_section(out, alloc, section, lane)?;
+        push_section(out, alloc, section, session)?;
     }
     Ok(())
 }
@@ -60,11 +59,17 @@ fn push_section(
     out: &mut String,
     alloc: Global,
     section: &Section,
-    lane: &MainLane,
+    session: &Session,
 ) -> Result<(), AllocError>
-    ensures { (n : PartsValue) (w : Work) → Tracks n w lane.now → AllHavePaths n section.now.cells → OnOk result (string_bytes out.new ≡ string_bytes out.old ++ as_text (code_lines n w (section_lane section.now) section.now.cells)) }
+    ensures { (n : PartsValue) (w : Work) → Tells n w session.now → AllHavePaths n section.now.cells → OnOk result (string_bytes out.new ≡ string_bytes out.old ++ as_text (code_lines n w (section_lane section.now) section.now.cells)) }
 {
-    push_cells(out, alloc, lane_of(section), section.cells.as_slice(), lane)?;
+    push_cells(
+        out,
+        alloc,
+        lane_of(section),
+        section.cells.as_slice(),
+        session,
+    )?;
     Ok(())
 }
 
@@ -83,12 +88,12 @@ fn push_cells(
     alloc: Global,
     home: Lane,
     cells: &[Cell],
-    lane: &MainLane,
+    session: &Session,
 ) -> Result<(), AllocError>
-    ensures { (n : PartsValue) (w : Work) → Tracks n w lane.now → AllHavePaths n cells.now → OnOk result (string_bytes out.new ≡ string_bytes out.old ++ as_text (code_lines n w home cells.now)) }
+    ensures { (n : PartsValue) (w : Work) → Tells n w session.now → AllHavePaths n cells.now → OnOk result (string_bytes out.new ≡ string_bytes out.old ++ as_text (code_lines n w home cells.now)) }
 {
     for cell in cells {
-        push_code(out, alloc, home, cell, lane)?;
+        push_code(out, alloc, home, cell, session)?;
     }
     Ok(())
 }
@@ -99,14 +104,14 @@ fn push_code(
     alloc: Global,
     home: Lane,
     cell: &Cell,
-    lane: &MainLane,
+    session: &Session,
 ) -> Result<(), AllocError>
-    ensures { (n : PartsValue) (w : Work) → Tracks n w lane.now → HasPathIfCode n cell.now cell.now.kind → OnOk result (string_bytes out.new ≡ string_bytes out.old ++ as_text (line_of_kind n w home cell.now cell.now.kind)) }
+    ensures { (n : PartsValue) (w : Work) → Tells n w session.now → HasPathIfCode n cell.now cell.now.kind → OnOk result (string_bytes out.new ≡ string_bytes out.old ++ as_text (line_of_kind n w home cell.now cell.now.kind)) }
 {
     match cell.kind {
         Kind::Setup | Kind::Markdown => Ok(()),
         Kind::Code => {
-            push_cell(out, alloc, cell.id, home, lane)?;
+            push_cell(out, alloc, cell.id, home, session)?;
             Ok(())
         }
     }
@@ -118,11 +123,11 @@ fn push_cell(
     alloc: Global,
     cell: CellId,
     home: Lane,
-    lane: &MainLane,
+    session: &Session,
 ) -> Result<(), AllocError>
-    ensures { (n : PartsValue) (w : Work) → Tracks n w lane.now → HasPath n cell → OnOk result (string_bytes out.new ≡ string_bytes out.old ++ ended_line (cell_line n w home cell)) }
+    ensures { (n : PartsValue) (w : Work) → Tells n w session.now → HasPath n cell → OnOk result (string_bytes out.new ≡ string_bytes out.old ++ ended_line (cell_line n w home cell)) }
 {
-    match lane.row(cell) {
+    match session.row(cell) {
         None => Ok(()),
         Some(
             Row {

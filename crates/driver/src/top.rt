@@ -1,7 +1,6 @@
 //! The top call: words, shelf and sink in, the status out.
 ghost use Rattle.std.specs.Prelude.{◌≡◌, ◌≤◌, List, ℕ, Option, map, IfSome, IfOk, string_bytes};
 ghost use Rattle.notebook.specs.Flow.{IsUnbranched};
-ghost use Rattle.script.specs.Play.{IsPlayable};
 ghost use Rattle.driver.specs.Program.{IsPlay, IsAnswer, status_of};
 ghost use Rattle.driver.specs.Answers.{BytesAreBook, BytesAreScript, IsBookAnswer, IsScriptAnswer, WordsAnswer, HasReadBook, outcome_of, ended_with};
 

@@ -1,15 +1,23 @@
-use Rattle.std.proofs.Common.{◌++◌, ◌∷◌, [], refl, ap, ◌∙◌, codes, string_bytes}
+use Rattle.std.proofs.Common.{◌≡◌, ◌++◌, ◌∷◌, [], length, refl, sym, ap, subst, ◌∙◌, codes, string_bytes, None, Some}
+use Rattle.std.specs.Vec.{vec_len}
 use Rattle.transcript.specs.Texts.{as_text, book_lines, rev_in}
 use Rattle.driver.specs.Lines.{no_client_words}
-use Rattle.driver.proofs.PlayerLaws.{show-nobody, show-some}
+use Rattle.driver.specs.Player.{how_many}
+use Rattle.driver.specs.Clients.{IsAt}
+use Rattle.driver.proofs.Placing.{within}
+use Rattle.driver.proofs.Still.{stands-placed, show-nobody, show-played}
 use Rattle.driver.proofs.player.Player.show.Goals as goal
 
-pub returns-in_ok-push_no_client-in-None-clause-played : goal.returns-in_ok-push_no_client-in-None-clause-played
-returns-in_ok-push_no_client-in-None-clause-played c = λ g s nm st z.
-    show-nobody g c.args.self.now _ s c.args.client _ _ st c.in-None.is refl
+pub index-own-requires : goal.index-own-requires
+index-own-requires c = within c.args.client c.deref.result.now _ _ c.in-Some.at c.place_of.result c.place_of.ensures c.in-Some.is refl c.deref.ensures.len
+
+pub returns-in_ok-push_no_client-in-None : goal.returns-in_ok-push_no_client-in-None
+returns-in_ok-push_no_client-in-None c = λ g s nm st.
+    show-nobody g c.args.self.now _ s c.args.client _ _ st (stands-placed g c.args.self.now s c.args.client c.place_of.result None c.deref.result.now st c.place_of.ensures c.deref.ensures.value c.in-None.is) refl
     (c.in_ok-push_no_client-in-None.ensures ∙ ap (λ x. string_bytes c.args.out.now ++ as_text (no_client_words x (codes "show") ∷ [])) nm)
 
-pub returns-in_ok-push_book-in-Some-clause-played : goal.returns-in_ok-push_book-in-Some-clause-played
-returns-in_ok-push_book-in-Some-clause-played c = λ g s nm st z.
-    show-some g c.args.self.now _ s c.args.client c.in-Some.own _ _ st c.in-Some.is z refl
-    (c.in_ok-push_book-in-Some.ensures ∙ ap (λ rs. string_bytes c.args.out.now ++ as_text (book_lines (rev_in rs) c.in-Some.own.book)) c.as_slice.ensures)
+pub returns-in_ok-push_book-in-Some : goal.returns-in_ok-push_book-in-Some
+returns-in_ok-push_book-in-Some c = λ g s nm st.
+    let is : IsAt g.opening c.args.self.now.clients.items s.clients c.args.client c.in-Some.at = stands-placed g c.args.self.now s c.args.client c.place_of.result (Some c.in-Some.at) c.deref.result.now st c.place_of.ensures c.deref.ensures.value c.in-Some.is in
+    show-played g c.args.self.now _ s c.args.client is.own c.book.result.now c.revs.result.now _ _ st is.there refl
+    (c.book.ensures g.opening is.own (is.mirrors c.index-own.result.now c.index-own.ensures)) (c.revs.ensures g.opening is.own (is.mirrors c.index-own.result.now c.index-own.ensures)) c.in_ok-push_book-in-Some.ensures

@@ -1,0 +1,13 @@
+use Rattle.std.proofs.Common.{List}
+use Rattle.std.specs.List.{AllByRecursion}
+use Rattle.session_ops.specs.State.{Legal}
+use Rattle.client_sync.specs.Client.{Client as Holder}
+use Rattle.world.specs.Waiting.{IsHonest}
+use Rattle.driver.specs.Player.{Game}
+use Rattle.driver.specs.Clients.{AreMirrored}
+use Rattle.driver.proofs.Receiving.{first_received}
+use Rattle.driver.proofs.clients.deliver_all.Given as goal
+
+-- the clients so far have received all
+abbrev pub invariant-loop-at : goal.invariant-loop-at
+invariant-loop-at l = (g : Game) (cs : List Holder) → Legal g.opening l.history → AllByRecursion (IsHonest g.opening l.history) cs → AreMirrored g.opening l.initial.clients cs → AreMirrored g.opening l.clients (first_received l.at g l.history cs)

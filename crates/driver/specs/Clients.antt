@@ -1,0 +1,50 @@
+-- The clients in memory, and what they stand for.
+use Rattle.std.specs.Prelude.{◌≡◌, ◌<◌, ℕ, ◌+◌, ◌==◌, if◌then◌else◌, false, List, [], ◌∷◌, length, take, get_or, slice_set, Option, Some, None}
+use Rattle.notebook.specs.declared.parts.Parts.{Parts}
+use Rattle.session_ops.specs.declared.entry.Entry.{Entry}
+use Rattle.session_ops.specs.Work.{is_in}
+use Rattle.client_sync.specs.Client.{Client as Holder, received, client_of, put_client}
+use Rattle.client_sync.specs.Stands.{Mirrors}
+use Rattle.client_sync.specs.declared.client.Client.{Client}
+use Rattle.driver.specs.Player.{unseen}
+
+-- the clients in memory stand for these, one by one
+abbrev pub AreMirrored : Parts → List Client → List Holder → Type 0
+AreMirrored n0 [] [] = Unit {0}
+AreMirrored n0 [] (c ∷ cs) = ⊥
+AreMirrored n0 (x ∷ xs) [] = ⊥
+AreMirrored n0 (x ∷ xs) (c ∷ cs) = Mirrors n0 x c × AreMirrored n0 xs cs
+
+-- a place, counted from so many places before
+abbrev pub later : ℕ → Option ℕ → Option ℕ
+later n None = None
+later n (Some at) = Some (n + at)
+
+-- the first place of a number
+abbrev pub place_in : ℕ → List ℕ → Option ℕ
+place_in n [] = None
+place_in n (m ∷ ms) = if m == n then Some 0 else later 1 (place_in n ms)
+
+-- no number stands twice
+abbrev pub AreApart : List ℕ → Type 0
+AreApart [] = Unit {0}
+AreApart (n ∷ ns) = (is_in n ns ≡ false) × AreApart ns
+
+-- the client of the number stands at the place, and another may be put there in its stead
+pub record IsAt (n0 : Parts) (xs : List Client) (cs : List Holder) (n at : ℕ) : Type 0 where
+  pub own : Holder
+  pub there : client_of n cs ≡ Some own
+  pub number : own.number ≡ n
+  pub inside : at < length xs
+  pub mirrors : (x : Client) → x ≡ get_or xs at x → Mirrors n0 x own
+  pub kept : (x : Client) → Mirrors n0 x own → AreMirrored n0 (slice_set xs at x) cs
+  pub replaced : (x : Client) (c : Holder) → c.number ≡ n → Mirrors n0 x c → AreMirrored n0 (slice_set xs at x) (put_client c cs)
+
+-- the place of the client of the number, if the number holds one
+abbrev pub IsPlace : Parts → List Client → List Holder → ℕ → Option ℕ → Type 0
+IsPlace n0 xs cs n None = client_of n cs ≡ None
+IsPlace n0 xs cs n (Some at) = IsAt n0 xs cs n at
+
+-- the client has received so many of the entries past its cursor
+abbrev pub HasReceived : Parts → List Entry → ℕ → Holder → Client → Type 0
+HasReceived n0 h many m x = Mirrors n0 x (received n0 m (take many (unseen m h)))
