@@ -132,7 +132,7 @@ fn faults_are_told(rt: HostRuntime) -> Result<(), Fail> {
         &rt,
         rt.alloc(),
         &["b", "s"],
-        &[BOOK, "join ann\nsend ann 1\n"],
+        &[BOOK, "join ann\nleave ann\n"],
         &[],
     )?;
     assert_eq!(rt; outcome.status, 5);
@@ -178,26 +178,63 @@ fn other_words_are_refused(rt: HostRuntime) -> Result<(), Fail> {
     Ok(())
 }
 
+/// Scripts of several clients, with the book, and with what is printed.
+const SEVERAL: [(&str, &str, &str); 6] = [
+    // One letter is taken away where another puts one: what was sent first goes first.
+    (
+        "# T\n\n## S\n\nabcd\n",
+        "join ann\njoin bob\nedit ann 1 [1,-2]\nedit bob 1 [2,\"X\"]\nsend ann 1\nsend bob 1\nsync\nshow ann\nshow bob\n",
+        "ann joined at 1\nbob joined at 2\nann edit 1: ok\nbob edit 1: ok\nann sent: accepted rev 1\nbob sent: accepted rev 2\nsync at 4\nnotebook \"T\"\nsection 1 \"S\"\ncell 1 markdown rev 2 \"aXd\"\nnotebook \"T\"\nsection 1 \"S\"\ncell 1 markdown rev 2 \"aXd\"\nend\nnotebook \"T\"\nsection 1 \"S\"\ncell 1 markdown rev 2 \"aXd\"\n",
+    ),
+    // Of two inserts at one place the first that was sent stands first.
+    (
+        "",
+        "join ann\njoin bob\nedit ann 0 [\"A\"]\nedit bob 0 [\"B\"]\nsend ann 1\nsend bob 1\nsync\nshow ann\nshow bob\n",
+        "ann joined at 1\nbob joined at 2\nann edit 0: ok\nbob edit 0: ok\nann sent: accepted rev 1\nbob sent: accepted rev 2\nsync at 4\nnotebook \"Untitled notebook\"\ncell 0 setup rev 2 \"AB\"\nnotebook \"Untitled notebook\"\ncell 0 setup rev 2 \"AB\"\nend\nnotebook \"Untitled notebook\"\ncell 0 setup rev 2 \"AB\"\ncode 0 main ready fresh\n",
+    ),
+    // Later edits wait in the buffer, and are posted together.
+    (
+        "# T\n\n## S\n\nabc\n",
+        "join ann\nedit ann 1 [\"1\"]\nedit ann 1 [1,\"2\"]\nedit ann 1 [2,\"3\"]\npending ann 1\nsend ann 1\nrecv ann all\npending ann 1\nsync\npending ann 1\n",
+        "ann joined at 1\nann edit 1: ok\nann edit 1: ok\nann edit 1: ok\nann pending 1: inflight [\"1\"] buffer [1,\"23\"] outbox 1\nann sent: accepted rev 1\nann at 2\nann pending 1: inflight [1,\"23\"] buffer [] outbox 1\nann sent: accepted rev 2\nsync at 3\nann pending 1: inflight none buffer [] outbox 0\nend\nnotebook \"T\"\nsection 1 \"S\"\ncell 1 markdown rev 2 \"123abc\"\n",
+    ),
+    // A late delivery moves what is in flight.
+    (
+        "# T\n\n## S\n\nab\n",
+        "join ann\njoin bob\nedit ann 1 [\"X\"]\nsend ann 1\nedit bob 1 [2,\"Y\"]\nshow bob\nrecv bob all\nshow bob\nsync\nshow ann\n",
+        "ann joined at 1\nbob joined at 2\nann edit 1: ok\nann sent: accepted rev 1\nbob edit 1: ok\nnotebook \"T\"\nsection 1 \"S\"\ncell 1 markdown rev 0 \"abY\"\nbob at 3\nnotebook \"T\"\nsection 1 \"S\"\ncell 1 markdown rev 1 \"XabY\"\nbob sent: accepted rev 2\nsync at 4\nnotebook \"T\"\nsection 1 \"S\"\ncell 1 markdown rev 2 \"XabY\"\nend\nnotebook \"T\"\nsection 1 \"S\"\ncell 1 markdown rev 2 \"XabY\"\n",
+    ),
+    // A name that has not joined; a client that has nothing to send.
+    (
+        "",
+        "send bob 1\njoin bob\nsend bob all\njoin bob\n",
+        "bob send: refused NotJoined\nbob joined at 1\nbob sent: nothing\nbob join: refused AlreadyJoined\nend\nnotebook \"Untitled notebook\"\n",
+    ),
+    // An edit by the client's own text, whose astral character takes two units.
+    (
+        "# T\n\n## S\n\na\u{1F600}b\n",
+        "join ann\nedit ann 1 [3,\"X\"]\nedit ann 1 [2,\"Y\"]\nshow ann\n",
+        "ann joined at 1\nann edit 1: ok\nann edit 1: refused SplitsPair 2\nnotebook \"T\"\nsection 1 \"S\"\ncell 1 markdown rev 0 \"a\u{1F600}Xb\"\nend\nnotebook \"T\"\nsection 1 \"S\"\ncell 1 markdown rev 0 \"a\u{1F600}b\"\n",
+    ),
+];
+
+/// Whether a script prints just this.
+fn prints<R: Threads + Wait + Sync>(
+    rt: &R,
+    alloc: Global,
+    book: &str,
+    script: &str,
+    told: &str,
+) -> Result<bool, Fail> {
+    let (outcome, written) = run(rt, alloc, &["b", "s"], &[book, script], &[])?;
+    Ok(outcome.status == 0 && written.as_slice() == told.as_bytes())
+}
+
 #[test]
-fn a_sync_stands_between_edits(rt: HostRuntime) -> Result<(), Fail> {
-    let script = "join ann\nedit ann 1 [\"X\"]\nedit ann 1 [\"Y\"]\n";
-    let (outcome, written) = run(&rt, rt.alloc(), &["b", "s"], &[BOOK, script], &[])?;
-    assert_eq!(rt; outcome.status, 5);
-    let why = ScriptError::At {
-        line: 3,
-        kind: LineFault::Unbuilt,
-    };
-    assert_eq!(rt; outcome.fault, Some(RunFault::ScriptRefused(why)));
-    assert_eq!(rt; written.len(), 0);
-    let script = "join ann\nedit ann 1 [\"X\"]\nsync\nedit ann 1 [3,\"Y\"]\nsync\n";
-    let (outcome, written) = run(&rt, rt.alloc(), &["b", "s"], &[BOOK, script], &[])?;
-    assert_eq!(rt; outcome.status, 0);
-    let told =
-        "ann joined at 1\nann edit 1: ok\nann sent: accepted rev 1\nsync at 2\nann edit 1: ok\nann sent: accepted rev 2\nsync at 3\nend\nnotebook \"T\"\nsection 1 \"S\"\ncell 1 markdown rev 2 \"XabY\"\n";
-    assert_eq!(rt; written.as_slice(), told.as_bytes());
-    let report = outcome.report.ok_or("a report")?;
-    assert_eq!(rt; report.marks.as_slice(), [2, 3, 3].as_slice());
-    assert_eq!(rt; report.history.len(), 3);
+fn several_clients_print(rt: HostRuntime) -> Result<(), Fail> {
+    for case in &SEVERAL {
+        assert!(rt; prints(&rt, rt.alloc(), case.0, case.1, case.2)?);
+    }
     Ok(())
 }
 
