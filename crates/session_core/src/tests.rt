@@ -1,8 +1,8 @@
-//! Each call over a notebook that has its setup cell alone.
+//! What sessions do, by small worked cases.
 use super::*;
 use delta::{Delta, Step};
 use ex_machine::run;
-use notebook::{Notebook, Status};
+use notebook::{CellKind, Lane, Notebook, Status, Validity};
 use session_ops::{Op, Refusal, Reply};
 use std::alloc::{AllocError, Global};
 use std::test::Fail;
@@ -28,16 +28,6 @@ fn ask(session: &mut Session, client: u32, op: Op) -> Result<Option<Refusal>, Al
     Ok(refusal(&reply))
 }
 
-/// A client joins.
-fn join(session: &mut Session, client: u32) -> Result<Option<Refusal>, AllocError> {
-    ask(session, client, Op::Join)
-}
-
-/// A client asks for the setup cell.
-fn queue(session: &mut Session, client: u32) -> Result<Option<Refusal>, AllocError> {
-    ask(session, client, Op::Queue { cell: 0 })
-}
-
 /// The delta of one step.
 fn delta_of(alloc: Global, step: Step) -> Result<Delta, Fail> {
     let mut steps = Vec::new(alloc);
@@ -45,120 +35,153 @@ fn delta_of(alloc: Global, step: Step) -> Result<Delta, Fail> {
     Ok(Delta::from_compact(steps)?)
 }
 
-/// A client's edit of the setup cell by one step.
-fn edit(
-    alloc: Global,
-    session: &mut Session,
-    client: u32,
-    base: u64,
-    step: Step,
-) -> Result<Option<Refusal>, Fail> {
-    let delta = delta_of(alloc, step)?;
-    let op = Op::Delta {
-        cell: 0,
-        base,
-        delta,
-    };
-    Ok(ask(session, client, op)?)
-}
-
-/// A client puts a text in at the beginning of the setup cell.
+/// A client puts a text in at the beginning of a cell.
 fn insert(
     alloc: Global,
     session: &mut Session,
     client: u32,
+    cell: u64,
     base: u64,
     text: &str,
 ) -> Result<Option<Refusal>, Fail> {
     let step = Step::Insert(Text::of(alloc, text)?);
-    edit(alloc, session, client, base, step)
+    let delta = delta_of(alloc, step)?;
+    Ok(ask(session, client, Op::Delta { cell, base, delta })?)
 }
 
-/// Runs a job and answers it.
-fn respond(alloc: Global, session: &mut Session, job: &PlainJob) -> Result<(), AllocError> {
+/// A session with a section `A` of two code cells, 1 and 2, and a branch `B` of it with the code cell 3;
+/// client 7 has joined.
+fn planned(alloc: Global) -> Result<Session, AllocError> {
+    let mut session = open(alloc)?;
+    ask(&mut session, 7, Op::Join)?;
+    let name = Text::of(alloc, "A")?;
+    ask(&mut session, 7, Op::InsertSection { index: 0, name })?;
+    let name = Text::of(alloc, "B")?;
+    ask(&mut session, 7, Op::InsertSection { index: 1, name })?;
+    let parent = Some(1);
+    ask(&mut session, 7, Op::SetParent { section: 2, parent })?;
+    code(&mut session, 1, 0)?;
+    code(&mut session, 1, 1)?;
+    code(&mut session, 2, 0)?;
+    Ok(session)
+}
+
+/// A new code cell at an index of a section.
+fn code(session: &mut Session, section: u64, index: u64) -> Result<Option<Refusal>, AllocError> {
+    let kind = CellKind::Code;
+    ask(
+        session,
+        7,
+        Op::InsertCell {
+            section,
+            index,
+            kind,
+        },
+    )
+}
+
+/// Runs a job and answers it, and says whether the answer was stored.
+fn respond(alloc: Global, session: &mut Session, job: &PlainJob) -> Result<bool, AllocError> {
     let ran = run(alloc, job.source.as_str(), &job.base, STEPS)?;
-    session.respond(1, job.eval, ran)?;
-    Ok(())
+    let reply = session.respond(1, job.eval, ran)?;
+    Ok(matches!(reply, Reply::Stored { .. }))
 }
 
-/// Starts an evaluation, asks for its cell again, tries to start another one, and answers. It says
-/// whether just the first start gave a job.
-fn evaluate(alloc: Global, session: &mut Session) -> Result<bool, AllocError> {
-    let Some(job) = session.start(1)? else {
-        return Ok(false);
-    };
-    queue(session, 7)?;
-    let second = session.start(2)?;
-    respond(alloc, session, &job)?;
-    Ok(second.is_none())
-}
-
-/// Whether the setup cell has this source.
-fn has_source(session: &Session, text: &str) -> bool {
-    session
-        .book()
-        .find(0)
-        .is_some_and(|cell| cell.source.as_str() == text)
+/// Evaluates what may start until nothing may, one after the other.
+fn settle(alloc: Global, session: &mut Session) -> Result<u64, AllocError> {
+    let mut count = 0;
+    for _ in 0..20 {
+        if let Some(lane) = session.ready_lane() {
+            if let Some(job) = session.start(1, lane)? {
+                respond(alloc, session, &job)?;
+                count += 1;
+            }
+        }
+    }
+    Ok(count)
 }
 
 #[test]
-fn a_stranger_is_refused_and_recorded(rt: HostRuntime) -> Result<(), Fail> {
+fn a_stranger_is_refused_whatever_it_asks(rt: HostRuntime) -> Result<(), Fail> {
     let mut session = open(rt.alloc())?;
-    let why = insert(rt.alloc(), &mut session, 7, 0, "a")?;
-    assert!(rt; why == Some(Refusal::NotJoined) && session.history().len() == 1);
+    let one = ask(&mut session, 7, Op::Report { cell: 9, rev: 9 })?;
+    let two = ask(&mut session, 7, Op::DeleteCell { cell: 0 })?;
+    let three = ask(&mut session, 7, Op::Leave)?;
+    assert!(rt; one == Some(Refusal::NotJoined) && two == one && three == one);
+    assert!(rt; session.history().len() == 3);
     Ok(())
 }
 
 #[test]
 fn crossing_deltas_both_stand(rt: HostRuntime) -> Result<(), Fail> {
     let mut session = open(rt.alloc())?;
-    join(&mut session, 7)?;
-    join(&mut session, 8)?;
-    insert(rt.alloc(), &mut session, 7, 0, "a")?;
-    insert(rt.alloc(), &mut session, 8, 0, "b")?;
-    assert!(rt; has_source(&session, "ab"));
+    ask(&mut session, 7, Op::Join)?;
+    ask(&mut session, 8, Op::Join)?;
+    insert(rt.alloc(), &mut session, 7, 0, 0, "a")?;
+    insert(rt.alloc(), &mut session, 8, 0, 0, "b")?;
+    let text = session.book().find(0).map(|cell| cell.source.as_str());
+    assert!(rt; text == Some("ab"));
     Ok(())
 }
 
 #[test]
-fn bases_are_neither_too_new_nor_too_old(rt: HostRuntime) -> Result<(), Fail> {
+fn reports_hold_back_no_more(rt: HostRuntime) -> Result<(), Fail> {
     let mut session = open(rt.alloc())?;
-    join(&mut session, 7)?;
-    let new = insert(rt.alloc(), &mut session, 7, 1, "a")?;
-    insert(rt.alloc(), &mut session, 7, 0, "a")?;
-    let old = insert(rt.alloc(), &mut session, 7, 0, "b")?;
-    assert!(rt; new == Some(Refusal::TooNew { now: 0 }));
+    ask(&mut session, 7, Op::Join)?;
+    ask(&mut session, 8, Op::Join)?;
+    insert(rt.alloc(), &mut session, 7, 0, 0, "a")?;
+    let new = ask(&mut session, 8, Op::Report { cell: 0, rev: 2 })?;
+    let good = ask(&mut session, 8, Op::Report { cell: 0, rev: 1 })?;
+    let old = insert(rt.alloc(), &mut session, 8, 0, 0, "b")?;
+    assert!(rt; new == Some(Refusal::TooNew { now: 1 }) && good.is_none());
     assert!(rt; old == Some(Refusal::TooOld { kept: 1 }));
     Ok(())
 }
 
 #[test]
-fn past_the_end_at_an_old_base(rt: HostRuntime) -> Result<(), Fail> {
-    let mut session = open(rt.alloc())?;
-    join(&mut session, 7)?;
-    join(&mut session, 8)?;
-    insert(rt.alloc(), &mut session, 7, 0, "abc")?;
-    let why = edit(rt.alloc(), &mut session, 8, 0, Step::Delete(2))?;
-    assert!(rt; why == Some(Refusal::PastEnd { len: 3 }));
+fn a_branch_starts_from_its_parents_end(rt: HostRuntime) -> Result<(), Fail> {
+    let mut session = planned(rt.alloc())?;
+    insert(rt.alloc(), &mut session, 7, 2, 0, "x = 1")?;
+    insert(rt.alloc(), &mut session, 7, 3, 0, "x + 1")?;
+    ask(&mut session, 7, Op::Queue { cell: 3 })?;
+    let early = session.start(1, Lane::Branch(2))?.is_some();
+    let count = settle(rt.alloc(), &mut session)?;
+    assert!(rt; !early && count == 4);
+    assert!(rt; session.validity(3) == Some(Validity::Evaluated) && session.is_idle());
     Ok(())
 }
 
 #[test]
-fn a_client_joins_once(rt: HostRuntime) -> Result<(), Fail> {
-    let mut session = open(rt.alloc())?;
-    join(&mut session, 7)?;
-    let why = join(&mut session, 7)?;
-    assert!(rt; why == Some(Refusal::AlreadyJoined));
+fn a_cancelled_answer_is_late(rt: HostRuntime) -> Result<(), Fail> {
+    let mut session = planned(rt.alloc())?;
+    ask(&mut session, 7, Op::Queue { cell: 0 })?;
+    let Some(job) = session.start(1, Lane::Main)? else {
+        return Ok(());
+    };
+    let runs = session.status(0) == Some(Status::Evaluating);
+    let done = ask(&mut session, 7, Op::Cancel { cell: 0 })?;
+    let again = ask(&mut session, 7, Op::Cancel { cell: 0 })?;
+    let stored = respond(rt.alloc(), &mut session, &job)?;
+    assert!(rt; runs && done.is_none() && again == Some(Refusal::NotQueued) && !stored);
+    assert!(rt; session.validity(0) == Some(Validity::Aborted));
     Ok(())
 }
 
 #[test]
-fn evaluates_one_at_a_time(rt: HostRuntime) -> Result<(), Fail> {
-    let mut session = open(rt.alloc())?;
-    join(&mut session, 7)?;
-    queue(&mut session, 7)?;
-    let alone = evaluate(rt.alloc(), &mut session)?;
-    assert!(rt; alone && session.history().len() == 5);
-    assert!(rt; session.status(0) == Some(Status::Queued) && session.shown(0).is_some());
+fn a_restored_cell_begins_anew(rt: HostRuntime) -> Result<(), Fail> {
+    let mut session = planned(rt.alloc())?;
+    insert(rt.alloc(), &mut session, 7, 1, 0, "x = 1")?;
+    ask(&mut session, 7, Op::DeleteCell { cell: 1 })?;
+    let gone = insert(rt.alloc(), &mut session, 7, 1, 1, "y")?;
+    let op = Op::RestoreCell {
+        cell: 1,
+        section: 1,
+        index: 0,
+    };
+    ask(&mut session, 7, op)?;
+    let good = insert(rt.alloc(), &mut session, 7, 4, 0, "y")?;
+    let text = session.book().find(4).map(|cell| cell.source.as_str());
+    assert!(rt; gone == Some(Refusal::NoCell) && good.is_none() && text == Some("yx = 1"));
+    assert!(rt; session.rev(4) == Some(1) && session.rev(1).is_none());
     Ok(())
 }

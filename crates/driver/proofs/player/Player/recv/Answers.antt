@@ -1,6 +1,6 @@
 use Rattle.std.proofs.Common.{◌≡◌, ◌<◌, slice_set, get_or, ◌++◌, ◌∷◌, [], length, refl, sym, ap, subst, ◌∙◌, codes, string_bytes, None, Some}
 use Rattle.std.specs.Vec.{vec_len}
-use Rattle.session_ops.specs.State.{Legal}
+use Rattle.driver.specs.Clients.{IsLawful}
 use Rattle.session_core.specs.Session.{history_of}
 use Rattle.world.specs.Waiting.{IsHonest}
 use Rattle.driver.specs.Standing.{HasReceivedSome}
@@ -31,6 +31,6 @@ returns-in_ok-receive_own-in-Some c = λ g s nm st.
     (ap (λ p. slice_set p.clients.items c.in-Some.at c.receive_own.new.own) look.1)
     (
     subst (λ h. HasReceivedSome g c.args.count h is.own c.receive_own.new.own c.args.name.now (string_bytes c.args.out.now) (string_bytes c.receive_own.new.out)) eh
-    (c.in_ok-receive_own-in-Some.ensures g is.own (subst (Legal g.opening) (sym eh) st.whole.legal) (subst (λ h. IsHonest g.opening h is.own) (sym eh) (own-honest g c.args.self.now s c.args.client is.own st is.there))
+    (c.in_ok-receive_own-in-Some.ensures g is.own (subst (IsLawful g.opening) (sym eh) (stage-lawful g c.args.self.now s st)) (subst (λ h. IsHonest g.opening h is.own) (sym eh) (own-honest g c.args.self.now s c.args.client is.own st is.there))
     (is.mirrors c.index_mut.result.now (subst (λ p. c.index_mut.result.now ≡ get_or p.clients.items c.in-Some.at c.index_mut.result.now) look.1 c.index_mut.ensures.value)))
     )
