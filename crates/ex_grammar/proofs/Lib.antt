@@ -1,3 +1,0 @@
-pub mod CodeTokens
-mod WorkedTokens
-mod WorkedGrammar
