@@ -1,0 +1,3 @@
+pub mod CodeTokens
+mod WorkedTokens
+mod WorkedGrammar

@@ -1,0 +1,13 @@
+pub mod Tokens
+pub mod Operators
+pub mod Texts
+pub mod Names
+pub mod Lexing
+pub mod Newlines
+pub mod Refusals
+pub mod Nests
+pub mod Patterns
+pub mod Trees
+pub mod Grammar
+pub mod Reading
+pub mod Coded

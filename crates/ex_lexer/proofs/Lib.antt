@@ -1,0 +1,17 @@
+pub mod Bools
+pub mod Bytes
+pub mod Escapes
+pub mod TextRuns
+pub mod NameRuns
+pub mod NumberRuns
+pub mod Fronts
+pub mod Sounds
+pub mod FrontCode
+pub mod Cuts
+pub mod Refusing
+pub mod Meaning
+pub mod SettlingTokens
+pub mod Laws
+pub mod Wholes
+pub mod Running
+pub mod Opening

@@ -1,0 +1,7 @@
+pub mod Runs
+pub mod Front
+pub mod Parts
+pub mod Machine
+pub mod Settled
+pub mod Open
+pub mod Lexed
