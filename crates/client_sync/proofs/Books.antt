@@ -1,14 +1,40 @@
 -- Notebooks in which one cell's source is replaced.
-use Rattle.std.proofs.Common.{◌≡◌, ℕ, ◌+◌, ◌==◌, true, false, if◌then◌else◌, List, [], ◌∷◌, ◌++◌, map, Some, refl, sym, ap, subst, ◌∙◌, arith, add-one, get_or}
+use Rattle.std.proofs.Common.{◌≡◌, ℕ, ◌+◌, ◌<◌, ◌==◌, true, false, if◌then◌else◌, List, [], ◌∷◌, ◌++◌, map, Some, refl, sym, ap, subst, ◌∙◌, arith, add-one, get_or}
 use Rattle.std.specs.Prelude.{Contains}
 use Rattle.std.proofs.lemmas.Bool.{eqb-true, eq-eqb}
 use Rattle.std.proofs.lemmas.List.{map-append, length-append, get_or_append_left}
 use Rattle.notebook.specs.declared.parts.Cell.{Cell}
 use Rattle.notebook.specs.declared.parts.Section.{Section}
 use Rattle.notebook.specs.declared.parts.Parts.{Parts}
-use Rattle.notebook.specs.Book.{cells, found, resourced_cell, resourced_cells, resourced_sections, resourced, source_for, with_source}
-use Rattle.notebook.specs.Rules.{AreDistinct, IsNotebook, cell_number, numbered_cells}
-use Rattle.session_ops.proofs.Sources.{Agree, same-book}
+use Rattle.notebook.specs.Book.{cells, cells_of, found, resourced_cell, resourced_cells, resourced_sections, resourced, source_for, with_source}
+use Rattle.std.specs.List.{flat_map, AllByRecursion}
+use Rattle.notebook.specs.Rules.{AreDistinct, IsBelow, IsNotebook, cell_number, numbered_cells}
+
+-- two ways to make sources that agree on each of these cells
+abbrev pub Agree : (Cell → List ℕ) → (Cell → List ℕ) → List Cell → Type 0
+Agree f g [] = Unit {0}
+Agree f g (c ∷ cs) = (f c ≡ g c) × Agree f g cs
+
+same-cells : (f g : Cell → List ℕ) (cs : List Cell) → Agree f g cs → resourced_cells f cs ≡ resourced_cells g cs
+same-cells f g [] h = refl
+same-cells f g (c ∷ cs) h = rw (h.0, same-cells f g cs h.1) refl
+
+agree-left : (f g : Cell → List ℕ) (xs ys : List Cell) → Agree f g (xs ++ ys) → Agree f g xs
+agree-left f g [] ys h = tt
+agree-left f g (x ∷ xs) ys h = (h.0, agree-left f g xs ys h.1)
+
+agree-right : (f g : Cell → List ℕ) (xs ys : List Cell) → Agree f g (xs ++ ys) → Agree f g ys
+agree-right f g [] ys h = h
+agree-right f g (x ∷ xs) ys h = agree-right f g xs ys h.1
+
+same-sections : (f g : Cell → List ℕ) (ss : List Section) → Agree f g (flat_map cells_of ss) → resourced_sections f ss ≡ resourced_sections g ss
+same-sections f g [] h = refl
+same-sections f g (s ∷ ss) h =
+    rw (same-cells f g s.cells (agree-left f g s.cells (flat_map cells_of ss) h), same-sections f g ss (agree-right f g s.cells (flat_map cells_of ss) h)) refl
+
+-- ways that agree on the live cells make one notebook
+same-book : (f g : Cell → List ℕ) (n : Parts) → Agree f g (cells n) → resourced f n ≡ resourced g n
+same-book f g n h = rw (h.0, same-sections f g n.sections h.1) refl
 
 -- a notebook resourced twice
 fused-cells : (f g : Cell → List ℕ) (cs : List Cell) → resourced_cells g (resourced_cells f cs) ≡ resourced_cells (λ c. g (resourced_cell f c)) cs
@@ -92,3 +118,17 @@ pub live-apart : (n : Parts) → IsNotebook n → AreDistinct (map cell_number (
 live-apart n h =
     let all : AreDistinct (map cell_number (cells n) ++ map cell_number n.bin) = subst AreDistinct (ap (λ i. i ∷ map cell_number (numbered_cells n)) (sym h.setup_number) ∙ map-append cell_number (cells n) n.bin) h.cell_numbers in
     distinct-front (map cell_number (cells n)) (map cell_number n.bin) all
+
+-- a live cell has a number below the next one
+below-found : (next k : ℕ) (cs more : List Cell) (c : Cell) → AllByRecursion (IsBelow next) (map cell_number (cs ++ more)) → found k cs ≡ Some c → c.id < next
+below-found next k [] more c h e = absurd (cc e)
+below-found next k (d ∷ cs) more c h e =
+    elim (d.id == k)
+    as (λ b. (if b then Some d else found k cs) ≡ Some c → c.id < next)
+    [ true ↦ λ here. let same : d ≡ c = cc here in subst (λ (x : Cell). x.id < next) same h.0 | false ↦ λ there. below-found next k cs more c h.1 there ]
+    e
+
+pub found-below : (n : Parts) (k : ℕ) (c : Cell) → IsNotebook n → found k (cells n) ≡ Some c → k < n.next_cell
+found-below n k c h e =
+    let all : AllByRecursion (IsBelow n.next_cell) (map cell_number (cells n ++ n.bin)) = subst (λ i. AllByRecursion (IsBelow n.next_cell) (i ∷ map cell_number (numbered_cells n))) (sym h.setup_number) h.next_cell in
+    subst (λ i. i < n.next_cell) (number-of k (cells n) c e) (below-found n.next_cell k (cells n) n.bin c all e)

@@ -12,23 +12,20 @@ use Rattle.notebook.specs.declared.parts.Cell.{Cell}
 use Rattle.notebook.specs.declared.parts.Parts.{Parts}
 use Rattle.notebook.specs.Book.{cells, found, resourced_cell, resourced, with_source}
 use Rattle.session_ops.specs.State.{State, state, Misfit, Past, Splits, revision, misfit}
-use Rattle.session_ops.specs.Snapshot.{revisions_of}
-use Rattle.session_ops.specs.declared.entry.Entry.{Entry}
-use Rattle.notebook.specs.Rules.{AreDistinct, cell_number}
+use Rattle.session_ops.specs.Snapshot.{HasRevisions, listed_revision}
+use Rattle.notebook.specs.Rules.{IsNotebook}
 use Rattle.client_sync.specs.Client.{Client as Holder, Pending, Done, EditTooLong, Unfit, pending_of, with_pending, own_source, delivered, edited, edited_cell, with_fitting, with_edit}
 use Rattle.client_sync.specs.Causes.{IsEditCause}
-use Rattle.client_sync.specs.Fits.{FitsHere}
+use Rattle.client_sync.specs.Fits.{HasSource, FitsHere}
 use Rattle.client_sync.specs.Own.{IsOwnText, IsOwnFault}
-use Rattle.client_sync.specs.Revisions.{rev_among}
-use Rattle.client_sync.specs.Stands.{Mirrors, HasEdits}
+use Rattle.client_sync.specs.Stands.{Mirrors, HasEdits, HaveServerTexts, TouchesMadeCells, pending_in}
 use Rattle.client_sync.specs.declared.client.Client.{Client}
 use Rattle.client_sync.specs.declared.edit_error.EditError.{EditError}
 use Rattle.client_sync.specs.declared.edit_error.EditError.TheVariants.{NoCell as NoCellError, EditTooLong as TooLongError, PastEnd, SplitsPair, OutOfMemory}
-use Rattle.client_sync.proofs.Books.{with-one-source}
+use Rattle.client_sync.proofs.Books.{live-apart, with-one-source}
 use Rattle.client_sync.proofs.Edits.{with_buffer, buffer_option, buffered-same, buffered-other, pending-added, pending-beside}
 use Rattle.client_sync.proofs.Fitting.{misfit-from, found-number, one-source, fits-buffered, buffer-shows}
-use Rattle.client_sync.proofs.Revisions.{revision-there}
-use Rattle.client_sync.proofs.Viewing.{found-held}
+use Rattle.client_sync.proofs.Viewing.{found-held, known-revision}
 
 -- what an edit is judged by
 short-test : (k : ℕ) → k ≤ 65536 → nat_lt 65536 k ≡ false
@@ -147,13 +144,14 @@ shown-of n0 m k own (Some cell) e is =
 pub is-shown : (n0 : Parts) (c : Client) (m : Holder) (k : ℕ) (own : Cell) → Mirrors n0 c m → found k (cells c.book) ≡ Some own → IsShown n0 m k own
 is-shown n0 c m k own is there = shown-of n0 m k own (found k (cells (delivered n0 m).book)) refl (sym there ∙ found-held n0 c m k is)
 
--- the cell's revision is the one that the client knows
-known-revision : (n0 : Parts) (c : Client) (m : Holder) (k : ℕ) (own : Cell) → Mirrors n0 c m → found k (cells (delivered n0 m).book) ≡ Some own → rev_among c.revs k ≡ revision (delivered n0 m) k
-known-revision n0 c m k own is there = ap (λ rs. rev_among rs k) is.revs ∙ revision-there (delivered n0 m) (cells (delivered n0 m).book) k own there
+-- where nothing is pending for a cell, its own text is the server's
+quiet-source : (n0 : Parts) (m : Holder) (k : ℕ) (own : Cell) (o : Option Pending) → (is : IsShown n0 m k own) → own.source ≡ with_pending o is.cell.source → o ≡ None → HasSource (delivered n0 m).book k own.source
+quiet-source n0 m k own o is e none = record { own = is.cell; there = is.there; source = sym (e ∙ ap (λ p. with_pending p is.cell.source) none) }
 
--- each cell's revision after a history
-abbrev pub revs_at : Parts → List Entry → List (ℕ × ℕ)
-revs_at n0 h = revisions_of (state n0 h) (cells (state n0 h).book)
+pub server-text : (n0 : Parts) (c : Client) (m : Holder) (k : ℕ) (own : Cell) → Mirrors n0 c m → found k (cells c.book) ≡ Some own → pending_of k (map pending_in c.pending) ≡ None → HasSource (delivered n0 m).book k own.source
+server-text n0 c m k own is there none =
+    let shown : IsShown n0 m k own = is-shown n0 c m k own is there in
+    quiet-source n0 m k own (pending_of k m.pending) shown shown.source (ap (pending_of k) (sym is.pending) ∙ none)
 
 -- a client in memory that changed only what is pending, what is to be sent and its notebook
 pub record IsSameBut (c c' : Client) : Type 0 where
@@ -164,18 +162,18 @@ pub record IsSameBut (c c' : Client) : Type 0 where
 
 edit-mirrors : (n0 : Parts) (c c' : Client) (m m' : Holder) (k : ℕ) (d : List Step) (text : List ℕ) (cell : Cell) → Mirrors n0 c m → found k (cells (delivered n0 m).book) ≡ Some cell → cell.id ≡ k
     → (e : ShowsEdit k d cell.source (pending_of k m.pending) m'.pending) → ((j : ℕ) → (k == j) ≡ false → pending_of j m'.pending ≡ pending_of j m.pending) → m'.number ≡ m.number → m'.seen ≡ m.seen
-    → text ≡ text_after d (with_pending (pending_of k m.pending) cell.source) → HasEdits c'.pending c'.outbox m' → IsSameBut c c' → c'.book ≡ with_source k text c.book → Mirrors n0 c' m'
-edit-mirrors n0 c c' m m' k d text cell is there number e others en es et edits same eb =
+    → text ≡ text_after d (with_pending (pending_of k m.pending) cell.source) → HasEdits c'.pending c'.outbox m' → HaveServerTexts (delivered n0 m).book c'.pending → IsSameBut c c' → c'.book ≡ with_source k text c.book → Mirrors n0 c' m'
+edit-mirrors n0 c c' m m' k d text cell is there number e others en es et edits texts same eb =
     let s : State = delivered n0 m in
     let now : (i : ℕ) → i ≡ k → with_pending (pending_of i m'.pending) cell.source ≡ text = λ i at. ap (λ j. with_pending (pending_of j m'.pending) cell.source) at ∙ (ap (λ o. with_pending o cell.source) e.there ∙ (e.text ∙ sym et)) in
     let book : with_source k text (resourced (own_source m.pending) s.book) ≡ resourced (own_source m'.pending) s.book =
-    with-one-source (own_source m.pending) (own_source m'.pending) s.book k text cell is.numbers there (now cell.id number)
+    with-one-source (own_source m.pending) (own_source m'.pending) s.book k text cell (live-apart s.book is.notebook) there (now cell.id number)
     (λ x ne. ap (λ o. with_pending o x.source) (others x.id (grind (arith, nat_tests, ne)))) in
     record {
       number = same.number ∙ (is.number ∙ sym en);
       cursor = same.cursor ∙ (is.cursor ∙ ap length (sym es));
       book = eb ∙ (ap (with_source k text) is.book ∙ (book ∙ ap (λ h. resourced (own_source m'.pending) (state n0 h).book) (sym es)));
-      revs = subst (λ h. c'.revs ≡ revs_at n0 h) (sym es) (same.revs ∙ is.revs);
+      revs = subst (λ h. HasRevisions (state n0 h) c'.revs) (sym es) (subst (HasRevisions s) (sym same.revs) is.revs);
       pending = edits.pending;
       outbox = edits.outbox;
       nothing = same.nothing ∙ is.nothing;
@@ -184,19 +182,21 @@ edit-mirrors n0 c c' m m' k d text cell is there number e others en es et edits 
           (fits-either s m'.pending k
           (λ p at. let one : e.now ≡ p = cc (e.there, at) in subst (FitsHere s k) one (record { source = cell.source; there = record { own = cell; there = there; source = refl }; flight = e.flight; buffer = e.buffer }))
           (λ j p ne at. is.fits j p (sym (others j ne) ∙ at)));
-      numbers = subst (λ h. AreDistinct (map cell_number (cells (state n0 h).book))) (sym es) is.numbers;
+      texts = subst (λ h. HaveServerTexts (state n0 h).book c'.pending) (sym es) texts;
+      notebook = subst (λ h. IsNotebook (state n0 h).book) (sym es) is.notebook;
+      made = subst (λ h. TouchesMadeCells (state n0 h)) (sym es) is.made;
     }
 
 -- an edit is done
-pub edit-done : (n0 : Parts) (c c' : Client) (m : Holder) (k base : ℕ) (d : List Step) (text : List ℕ) → Mirrors n0 c m → IsOwnText c.book k d text → d ≢ [] → base ≡ rev_among c.revs k
-    → ((h : Holder) → HasEdits c.pending c.outbox h → HasEdits c'.pending c'.outbox (with_edit h k base d (pending_of k h.pending))) → IsSameBut c c' → c'.book ≡ with_source k text c.book
+pub edit-done : (n0 : Parts) (c c' : Client) (m : Holder) (k base : ℕ) (d : List Step) (text : List ℕ) → Mirrors n0 c m → IsOwnText c.book k d text → d ≢ [] → Some base ≡ listed_revision k c.revs
+    → ((h : Holder) → HasEdits c.pending c.outbox h → HasEdits c'.pending c'.outbox (with_edit h k base d (pending_of k h.pending))) → HaveServerTexts (delivered n0 m).book c'.pending → IsSameBut c c' → c'.book ≡ with_source k text c.book
     → (m' : Holder) × ((edited n0 m k d ≡ Done m') × Mirrors n0 c' m')
-edit-done n0 c c' m k base d text is f some b edits same eb =
+edit-done n0 c c' m k base d text is f some b edits texts same eb =
     let shown : IsShown n0 m k f.own = is-shown n0 c m k f.own is f.there in
     let cell : Cell = shown.cell in
     let o : Option Pending = pending_of k m.pending in
     let rev : ℕ = revision (delivered n0 m) k in
-    let known : base ≡ rev = b ∙ known-revision n0 c m k cell is shown.there in
+    let known : base ≡ rev = known-revision n0 c m k base cell is shown.there shown.number b in
     let m' : Holder = with_edit m k rev d o in
     let has : HasEdits c'.pending c'.outbox m' = subst (λ r. HasEdits c'.pending c'.outbox (with_edit m k r d o)) known (edits m (record { pending = is.pending; outbox = is.outbox; apart = is.apart })) in
     let fits : FitsText d (with_pending o cell.source) = subst (FitsText d) shown.source f.fits in (
@@ -209,6 +209,6 @@ edit-done n0 c c' m k base d text is f some b edits same eb =
             (edit-shows m k rev d cell.source o refl (fits-over n0 c m k cell is shown.there) fits)
             (λ j ne. edit-beside m k rev j d o ne)
             (edit-number m k rev d o) (edit-seen m k rev d o)
-            (f.text ∙ ap (text_after d) shown.source) has same eb,
+            (f.text ∙ ap (text_after d) shown.source) has texts same eb,
       ),
     )

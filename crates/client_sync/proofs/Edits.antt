@@ -162,7 +162,7 @@ buffered-alone k d front p back h =
     buffered-append k d front (p ∷ back) ∙ (ap (λ qs. qs ++ buffered k d (p ∷ back)) (buffered-none k d front h.before) ∙ ap (λ qs. front ++ qs) here)
 
 -- numbers that differ
-contains-behind : (n x : ℕ) (ns : List ℕ) → Contains ns x → Contains (n ∷ ns) x
+pub contains-behind : (n x : ℕ) (ns : List ℕ) → Contains ns x → Contains (n ∷ ns) x
 contains-behind n x ns h = (suc h.0, omega (arith, h.1), h.2)
 
 contains-last : (ns : List ℕ) (n x : ℕ) → Contains (ns ++ n ∷ []) x → (¬ Contains ns x) → n ≡ x
@@ -171,7 +171,7 @@ contains-last [] n x (suc k, within, at) h = absurd (omega (arith, within))
 contains-last (y ∷ ns) n x (zero, within, at) h = absurd (h (0, omega arith, at))
 contains-last (y ∷ ns) n x (suc k, within, at) h = contains-last ns n x (k, omega (arith, within), at) (λ w. h (contains-behind y x ns w))
 
-distinct-added : (ns : List ℕ) (n : ℕ) → AreDistinct ns → (¬ Contains ns n) → AreDistinct (ns ++ n ∷ [])
+pub distinct-added : (ns : List ℕ) (n : ℕ) → AreDistinct ns → (¬ Contains ns n) → AreDistinct (ns ++ n ∷ [])
 distinct-added [] n d h = (h, tt)
 distinct-added (x ∷ ns) n d h =
     (λ w. h (0, omega arith, sym (contains-last ns n x w d.0)), distinct-added ns n d.1 (λ w. h (contains-behind x n ns w)))
@@ -180,7 +180,7 @@ contains-either : (p : Pending) (ms ns : List ℕ) (n : ℕ) → Contains (p.cel
 contains-either p ms ns n (zero, within, at) f = (0, omega arith, at)
 contains-either p ms ns n (suc k, within, at) f = contains-behind p.cell n ns (f (k, omega (arith, within), at))
 
-contains-rest : (m : ℕ) (ns : List ℕ) (n : ℕ) → (m == n) ≡ false → Contains (m ∷ ns) n → Contains ns n
+pub contains-rest : (m : ℕ) (ns : List ℕ) (n : ℕ) → (m == n) ≡ false → Contains (m ∷ ns) n → Contains ns n
 contains-rest m ns n e (zero, within, at) = absurd (grind (arith, nat_tests, e, at))
 contains-rest m ns n e (suc k, within, at) = (k, omega (arith, within), at)
 

@@ -17,7 +17,7 @@ use Rattle.session_ops.specs.declared.entry.Call.TheVariants.{Client as ByClient
 use Rattle.session_ops.specs.declared.entry.Refusal.TheVariants.{NotJoined, TooNew, TooOld}
 use Rattle.session_ops.specs.declared.entry.Reply.TheVariants.{Applied, Refused}
 use Rattle.session_ops.specs.State.{State, Misfit, Past, Splits, taken_by, revision, least, misfit, split_misfit, reply, delta_reply, judged_by}
-use Rattle.session_ops.specs.Work.{is_in}
+use Rattle.session_ops.specs.Numbers.{is_in}
 use Rattle.client_sync.specs.Client.{Pending, after_buffer, with_pending}
 use Rattle.client_sync.specs.Fits.{HasSource}
 use Rattle.client_sync.specs.Moving.{over_pending}

@@ -40,13 +40,13 @@ pub pending-here : (us : List Unconfirmed) (k at : ℕ) (ps : List Pending) (p :
 pending-here us k at ps p same = ap (pending_of k) (sym same) ∙ pending-there us k at p
 
 -- with nothing in flight the edit is posted
-pub posted-has : (us vs : List Unconfirmed) (ops os : List Op) (m : Holder) (k base : ℕ) (d : List Step) → HasEdits us ops m → pending_of k (map pending_in us) ≡ None → vs ≡ us ++ in_flight k d ∷ [] → os ≡ ops ++ edit_message k base d ∷ [] → HasEdits vs os (with_edit m k base d (pending_of k m.pending))
-posted-has us vs ops os m k base d h none ev eo =
+pub posted-has : (us vs : List Unconfirmed) (ops os : List Op) (m : Holder) (k base : ℕ) (server : List ℕ) (d : List Step) → HasEdits us ops m → pending_of k (map pending_in us) ≡ None → vs ≡ us ++ in_flight k server d ∷ [] → os ≡ ops ++ edit_message k base d ∷ [] → HasEdits vs os (with_edit m k base d (pending_of k m.pending))
+posted-has us vs ops os m k base server d h none ev eo =
     let quiet : pending_of k m.pending ≡ None = ap (pending_of k) (sym h.pending) ∙ none in
-    let q : Pending = pending_in (in_flight k d) in
+    let q : Pending = pending_in (in_flight k server d) in
     subst (λ o. HasEdits vs os (with_edit m k base d o)) (sym quiet)
     (record {
-      pending = ap (map pending_in) ev ∙ (map-append pending_in us (in_flight k d ∷ []) ∙ ap (λ ps. ps ++ q ∷ []) h.pending);
+      pending = ap (map pending_in) ev ∙ (map-append pending_in us (in_flight k server d ∷ []) ∙ ap (λ ps. ps ++ q ∷ []) h.pending);
       outbox = eo ∙ ap (λ xs. xs ++ edit_message k base d ∷ []) h.outbox;
       apart = apart-added m.pending q h.apart quiet;
     })

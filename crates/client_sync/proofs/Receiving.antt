@@ -1,5 +1,5 @@
 -- A client that receives an entry goes on standing for what the definitions say.
-use Rattle.std.proofs.Common.{◌≡◌, ◌≢◌, ℕ, ◌+◌, ◌==◌, Bool, true, false, if◌then◌else◌, List, [], ◌∷◌, ◌++◌, length, map, Option, Some, None, refl, sym, ap, subst, ◌∙◌, arith, ne_eqb}
+use Rattle.std.proofs.Common.{◌≡◌, ◌≢◌, ℕ, ◌+◌, ◌<◌, ◌≤◌, ◌==◌, Bool, true, false, if◌then◌else◌, List, [], ◌∷◌, ◌++◌, length, map, Option, Some, None, refl, sym, ap, subst, ◌∙◌, arith, ne_eqb}
 use Rattle.std.specs.Option.{option_map}
 use Rattle.std.proofs.lemmas.Bool.{eqb-true, eq-eqb}
 use Rattle.std.proofs.lemmas.Bool.Decides.{nat_tests}
@@ -10,29 +10,30 @@ use Rattle.delta_laws.proofs.Laws.{delta_laws}
 use Rattle.notebook.specs.declared.parts.Cell.{Cell}
 use Rattle.notebook.specs.declared.parts.Parts.{Parts}
 use Rattle.notebook.specs.Book.{cells, found, resourced_cell, resourced, with_source}
-use Rattle.notebook.specs.Rules.{AreDistinct, cell_number}
-use Rattle.notebook.proofs.Sources.{found-resourced, live_numbers-resourced}
-use Rattle.session_ops.specs.declared.entry.Op.TheVariants.{Join, Delta, Queue}
+use Rattle.notebook.specs.Rules.{AreDistinct, IsNotebook, cell_number}
+use Rattle.notebook.proofs.Sources.{found-resourced, IsNotebook-resourced}
+use Rattle.session_ops.specs.declared.entry.Op.TheVariants.{Delta}
 use Rattle.session_ops.specs.declared.entry.Call.{Call}
-use Rattle.session_ops.specs.declared.entry.Call.TheVariants.{Client as ByClient, Start, Respond}
+use Rattle.session_ops.specs.declared.entry.Call.TheVariants.{Client as ByClient}
 use Rattle.session_ops.specs.declared.entry.Reply.{Reply}
-use Rattle.session_ops.specs.declared.entry.Reply.TheVariants.{Accepted, Applied, Started, Stored}
+use Rattle.session_ops.specs.declared.entry.Reply.TheVariants.{Applied}
 use Rattle.session_ops.specs.declared.entry.Entry.{Entry}
 use Rattle.session_ops.specs.State.{State, Taken, state, after, after_call, taken_by, revision, moved_source, reply}
-use Rattle.session_ops.specs.Snapshot.{revisions_of}
-use Rattle.session_ops.proofs.Growing.{state-append}
+use Rattle.session_ops.specs.Snapshot.{HasRevisions}
 use Rattle.client_sync.specs.Arrivals.{Arriving, arriving}
 use Rattle.client_sync.specs.Client.{Client as Holder, Pending, pending_of, after_buffer, with_pending, own_source, delivered, with_own, with_call, reposted, all_moved, without, received_entry}
 use Rattle.client_sync.specs.Fits.{HasSource, FitsHere}
-use Rattle.client_sync.specs.Moving.{over_option, IsMovedOver}
+use Rattle.client_sync.specs.Moving.{over_option, FitsCell, book_after, IsMovedOver}
 use Rattle.client_sync.specs.Revisions.{raised}
-use Rattle.client_sync.specs.Stands.{Mirrors, HasEdits, IsNextEntry, IsOwnFlight}
+use Rattle.client_sync.specs.Stands.{Mirrors, TouchesMadeCells, HasEdits, HaveServerTexts, IsNextEntry, IsOwnFlight}
 use Rattle.client_sync.specs.declared.client.Client.{Client}
-use Rattle.client_sync.proofs.Books.{fused, same-each, with-one-source}
-use Rattle.client_sync.proofs.Editing.{FitsOver, fits-over, fits-either, revs_at}
+use Rattle.client_sync.proofs.Books.{fused, same-each, live-apart, found-below, with-one-source}
+use Rattle.client_sync.proofs.Editing.{FitsOver, fits-over, fits-either}
 use Rattle.client_sync.proofs.Edits.{shifted_option, shifted-same, shifted-other, without-same, without-other, pending-added, pending-beside}
 use Rattle.client_sync.proofs.Fitting.{IsTaken, IsShifted, applied-taken, found-number, shift-fits}
-use Rattle.client_sync.proofs.Revisions.{revisions-raised}
+use Rattle.client_sync.proofs.Growing.{state-append}
+use Rattle.client_sync.proofs.Revisions.{SameNumber, revisions-raised}
+use Rattle.client_sync.proofs.Texts.{source-moved, source-beside, source-here}
 use Rattle.client_sync.proofs.Viewing.{found-held}
 
 -- the deltas that a cell took, with one more
@@ -90,7 +91,7 @@ came-by (ByClient n (Delta k base d)) (Applied rev x) a e =
 came-by call answer a e = absurd (cc e)
 
 -- the state at the client's next delivery
-abbrev next_state : Parts → Holder → Entry → State
+abbrev pub next_state : Parts → Holder → Entry → State
 next_state n0 m e = state n0 (m.seen ++ e ∷ [])
 
 pub arrived : (n0 : Parts) (m : Holder) (e : Entry) (a : Arriving) → CameBy e.call e.reply a → IsNextEntry n0 m e → IsArrived (delivered n0 m) (next_state n0 m e) a.cell a.rev a.delta
@@ -101,37 +102,32 @@ arrived n0 m e a by next =
 abbrev pub seen_more : Holder → Entry → Holder
 seen_more m e = record m { seen = m.seen ++ e ∷ [] }
 
--- each cell's source at the next delivery
-source-moved : (x : List Step) (k : ℕ) (c : Cell) (b : Bool) → (c.id == k) ≡ b → moved_source k x c ≡ (if b then text_after x c.source else c.source)
-source-moved x k c b e = ap (λ t. if t then text_after x c.source else c.source) e
-
 -- another cell's pending edits fit as they did
 beside-fits : (s t : State) (k rev j : ℕ) (x : List Step) (p : Pending) → IsArrived s t k rev x → (k == j) ≡ false → FitsHere s j p → FitsHere t j p
-beside-fits s t k rev j x p is ne f =
-    let cell : Cell = f.there.own in
-    let number : cell.id ≡ j = found-number j (cells s.book) cell f.there.there in
-    let other : (cell.id == k) ≡ false = grind (arith, nat_tests, ne, number) in
-    let there : found j (cells t.book) ≡ Some (resourced_cell (moved_source k x) cell) = ap (λ n. found j (cells n)) is.book ∙ (found-resourced (moved_source k x) j s.book ∙ ap (option_map (resourced_cell (moved_source k x))) f.there.there) in
-    record { source = f.source; there = record { own = resourced_cell (moved_source k x) cell; there = there; source = source-moved x k cell false other ∙ f.there.source }; flight = f.flight; buffer = f.buffer }
+beside-fits s t k rev j x p is ne f = record { source = f.source; there = subst (λ n. HasSource n j f.source) (sym is.book) (source-beside s.book k x j f.source ne f.there); flight = f.flight; buffer = f.buffer }
 
 -- the cell itself has the delta applied to its source
-here-source : (s t : State) (k rev : ℕ) (x : List Step) (is : IsArrived s t k rev x) → HasSource t.book k (text_after x is.taken.own.source)
-here-source s t k rev x is =
-    let cell : Cell = is.taken.own in
-    let same : (cell.id == k) ≡ true = eq-eqb cell.id k (found-number k (cells s.book) cell is.taken.there) in
-    record {
-      own = resourced_cell (moved_source k x) cell;
-      there = ap (λ n. found k (cells n)) is.book ∙ (found-resourced (moved_source k x) k s.book ∙ ap (option_map (resourced_cell (moved_source k x))) is.taken.there);
-      source = source-moved x k cell true same;
-    }
+cell-source : (s t : State) (k rev : ℕ) (x : List Step) (is : IsArrived s t k rev x) → HasSource t.book k (text_after x is.taken.own.source)
+cell-source s t k rev x is = subst (λ n. HasSource n k (text_after x is.taken.own.source)) (sym is.book) (source-here s.book k x is.taken.own is.taken.there)
+
+-- the cells are the same, by their numbers
+same-of : (f : Cell → List ℕ) (o : Option Cell) → SameNumber o (option_map (resourced_cell f) o)
+same-of f None = tt
+same-of f (Some c) = refl
 
 -- what the client knows of the revisions
-revs-arrived : (s t : State) (k rev : ℕ) (x : List Step) → IsArrived s t k rev x → raised k rev (revisions_of s (cells s.book)) ≡ revisions_of t (cells t.book)
-revs-arrived s t k rev x is =
-    revisions-raised s t (cells s.book) (cells t.book) k rev (ap (λ n. map cell_number (cells n)) is.book ∙ live_numbers-resourced (moved_source k x) s.book) is.revisions
+revs-arrived : (s t : State) (k rev : ℕ) (x : List Step) (rs : List (ℕ × ℕ)) → IsArrived s t k rev x → HasRevisions s rs → HasRevisions t (raised k rev rs)
+revs-arrived s t k rev x rs is h =
+    revisions-raised s t k rev rs h is.revisions (λ j c e. found-number j (cells s.book) c e)
+    (λ j. subst (SameNumber (found j (cells s.book))) (sym (ap (λ n. found j (cells n)) is.book ∙ found-resourced (moved_source k x) j s.book)) (same-of (moved_source k x) (found j (cells s.book))))
 
-numbers-arrived : (s t : State) (k rev : ℕ) (x : List Step) → IsArrived s t k rev x → AreDistinct (map cell_number (cells s.book)) → AreDistinct (map cell_number (cells t.book))
-numbers-arrived s t k rev x is d = subst AreDistinct (sym (ap (λ n. map cell_number (cells n)) is.book ∙ live_numbers-resourced (moved_source k x) s.book)) d
+-- no delta was applied to a cell that isn't made yet
+made-arrived : (s t : State) (k rev : ℕ) (x : List Step) → IsArrived s t k rev x → IsNotebook s.book → TouchesMadeCells s → TouchesMadeCells t
+made-arrived s t k rev x is rules made = λ cell late.
+    let old : s.book.next_cell ≤ cell = subst (λ (n : Parts). n.next_cell ≤ cell) is.book late in
+    let live : k < s.book.next_cell = found-below s.book k is.taken.own rules is.taken.there in
+    let other : (cell == k) ≡ false = grind (arith, nat_tests, old, live) in
+    is.revisions cell ∙ (ap (λ b. if b then rev else revision s cell) other ∙ made cell old)
 
 -- a client in memory after a delta arrived
 pub record HasArrived (c c' : Client) (k rev : ℕ) : Type 0 where
@@ -139,20 +135,22 @@ pub record HasArrived (c c' : Client) (k rev : ℕ) : Type 0 where
   pub revs : c'.revs ≡ raised k rev c.revs
   pub nothing : c'.nothing ≡ c.nothing
 
-arrived-mirrors : (n0 : Parts) (c c' : Client) (m m' : Holder) (e : Entry) (k rev : ℕ) (x : List Step) → Mirrors n0 c m → IsArrived (delivered n0 m) (next_state n0 m e) k rev x → m'.number ≡ m.number → m'.seen ≡ m.seen ++ e ∷ [] → HasArrived c c' k rev → HasEdits c'.pending c'.outbox m'
+arrived-mirrors : (n0 : Parts) (c c' : Client) (m m' : Holder) (e : Entry) (k rev : ℕ) (x : List Step) → Mirrors n0 c m → IsArrived (delivered n0 m) (next_state n0 m e) k rev x → m'.number ≡ m.number → m'.seen ≡ m.seen ++ e ∷ [] → HasArrived c c' k rev → HasEdits c'.pending c'.outbox m' → HaveServerTexts (book_after k x (delivered n0 m).book) c'.pending
     → c'.book ≡ resourced (own_source m'.pending) (next_state n0 m e).book → ((j : ℕ) (p : Pending) → pending_of j m'.pending ≡ Some p → FitsHere (next_state n0 m e) j p) → Mirrors n0 (record c' { cursor = length m.seen + 1 }) m'
-arrived-mirrors n0 c c' m m' e k rev x is new en es has edits eb fits =
+arrived-mirrors n0 c c' m m' e k rev x is new en es has edits texts eb fits =
     record {
       number = has.number ∙ (is.number ∙ sym en);
       cursor = sym (ap length es ∙ length-append m.seen (e ∷ []));
       book = eb ∙ ap (λ h. resourced (own_source m'.pending) (state n0 h).book) (sym es);
-      revs = subst (λ h. c'.revs ≡ revs_at n0 h) (sym es) (has.revs ∙ (ap (raised k rev) is.revs ∙ revs-arrived (delivered n0 m) (next_state n0 m e) k rev x new));
+      revs = subst (λ h. HasRevisions (state n0 h) c'.revs) (sym es) (subst (HasRevisions (next_state n0 m e)) (sym has.revs) (revs-arrived (delivered n0 m) (next_state n0 m e) k rev x c.revs new is.revs));
       pending = edits.pending;
       outbox = edits.outbox;
       nothing = has.nothing ∙ is.nothing;
       apart = edits.apart;
       fits = subst (λ h. (j : ℕ) (p : Pending) → pending_of j m'.pending ≡ Some p → FitsHere (state n0 h) j p) (sym es) fits;
-      numbers = subst (λ h. AreDistinct (map cell_number (cells (state n0 h).book))) (sym es) (numbers-arrived (delivered n0 m) (next_state n0 m e) k rev x new is.numbers);
+      texts = subst (λ h. HaveServerTexts (state n0 h).book c'.pending) (sym es) (subst (λ n. HaveServerTexts n c'.pending) (sym new.book) texts);
+      notebook = subst (λ h. IsNotebook (state n0 h).book) (sym es) (subst IsNotebook (sym new.book) (IsNotebook-resourced (moved_source k x) (delivered n0 m).book is.notebook));
+      made = subst (λ h. TouchesMadeCells (state n0 h)) (sym es) (made-arrived (delivered n0 m) (next_state n0 m e) k rev x new is.notebook is.made);
     }
 
 -- the own delta came back: what was buffered is in flight, unless it is empty
@@ -215,7 +213,7 @@ own-fits s t m k rev x p is e same over old =
     let fb : FitsText p.buffer (text_after x src) = subst (λ d. FitsText p.buffer (text_after d src)) (sym same) over.1 in
     fits-either t (reposted m k rev p.buffer).pending k
     (λ q at. let f = back-fits k p.buffer (text_after x src) q fb (sym (back-there m k rev p.buffer) ∙ at) in
-    record { source = text_after x src; there = here-source s t k rev x is; flight = f.0; buffer = f.1 })
+    record { source = text_after x src; there = cell-source s t k rev x is; flight = f.0; buffer = f.1 })
     (λ j q ne at. beside-fits s t k rev j x q is ne (old j q (sym (back-beside m k rev j p.buffer ne) ∙ at)))
 
 -- what is in flight is what came back
@@ -223,12 +221,14 @@ flight-of : (m : Holder) (n k base rev : ℕ) (d x : List Step) (call : Call) (a
 flight-of m n k base rev d x call answer c a mine own = (subst (λ r. IsOwnFlight m (ByClient n (Delta k base d)) r) a (subst (λ i. IsOwnFlight m i answer) c own)) mine
 
 received-of : (n0 : Parts) (m : Holder) (e : Entry) (a : Arriving) → CameBy e.call e.reply a → received_entry n0 m e ≡ (if a.client == m.number then with_own (seen_more m e) a.cell a.rev (pending_of a.cell m.pending) else record (seen_more m e) { pending = all_moved a.cell a.delta m.pending })
-received-of n0 m e a by = ap (λ c. with_call (seen_more m e) c e.reply) by.call_is ∙ ap (with_call (seen_more m e) (ByClient a.client (Delta a.cell by.base by.delta))) by.answer_is
+received-of n0 m e a by =
+    ap (λ c. with_call (delivered n0 m) (seen_more m e) c e.reply) by.call_is ∙ ap (with_call (delivered n0 m) (seen_more m e) (ByClient a.client (Delta a.cell by.base by.delta))) by.answer_is
 
 -- the client's own delta came back
 pub own-mirrors : (n0 : Parts) (c c' : Client) (m : Holder) (e : Entry) (a : Arriving) → Mirrors n0 c m → IsNextEntry n0 m e → CameBy e.call e.reply a → a.client ≡ c.number
-    → HasEdits c'.pending c'.outbox (with_own (seen_more m e) a.cell a.rev (pending_of a.cell m.pending)) → c' ≡ record c { revs = raised a.cell a.rev c.revs; pending = c'.pending; outbox = c'.outbox } → Mirrors n0 (record c' { cursor = length m.seen + 1 }) (received_entry n0 m e)
-own-mirrors n0 c c' m e a is next by mine edits rest =
+    → HasEdits c'.pending c'.outbox (with_own (seen_more m e) a.cell a.rev (pending_of a.cell m.pending))
+    → ((p : Pending) → pending_of a.cell m.pending ≡ Some p → FitsCell (delivered n0 m).book a.cell p.flight → HaveServerTexts (book_after a.cell p.flight (delivered n0 m).book) c'.pending) → c' ≡ record c { revs = raised a.cell a.rev c.revs; pending = c'.pending; outbox = c'.outbox } → Mirrors n0 (record c' { cursor = length m.seen + 1 }) (received_entry n0 m e)
+own-mirrors n0 c c' m e a is next by mine edits texts rest =
     let s : State = delivered n0 m in
     let t : State = next_state n0 m e in
     let new : IsArrived s t a.cell a.rev a.delta = arrived n0 m e a by next in
@@ -242,6 +242,7 @@ own-mirrors n0 c c' m e a is next by mine edits rest =
     (arrived-mirrors n0 c c' m m' e a.cell a.rev a.delta is new (back-number (seen_more m e) a.cell a.rev f.0.buffer) (back-seen (seen_more m e) a.cell a.rev f.0.buffer)
     (record { number = ap (λ (x : Client). x.number) rest; revs = ap (λ (x : Client). x.revs) rest; nothing = ap (λ (x : Client). x.nothing) rest })
     (subst (HasEdits c'.pending c'.outbox) some edits)
+    (subst (λ x. HaveServerTexts (book_after a.cell x s.book) c'.pending) (sym f.1.1) (texts f.0 f.1.0 (record { own = new.taken.own; there = new.taken.there; fits = over.0 })))
     (ap (λ (x : Client). x.book) rest ∙ (is.book ∙ own-book s t (seen_more m e) a.cell a.rev a.delta f.0 new f.1.0 f.1.1))
     (own-fits s t (seen_more m e) a.cell a.rev a.delta f.0 new f.1.0 f.1.1 over is.fits))
 
@@ -263,6 +264,11 @@ pub record IsForeign (n0 : Parts) (c : Client) (m : Holder) (k : ℕ) (x : List 
   pub there : found k (cells c.book) ≡ Some own
   pub fits : FitsText (over_option x (pending_of k m.pending)) own.source
   pub source : (cell : Cell) → found k (cells (delivered n0 m).book) ≡ Some cell → own.source ≡ with_pending (pending_of k m.pending) cell.source
+
+pub fits-cell : (n0 : Parts) (m : Holder) (e : Entry) (a : Arriving) → IsNextEntry n0 m e → CameBy e.call e.reply a → FitsCell (delivered n0 m).book a.cell a.delta
+fits-cell n0 m e a next by =
+    let taken : IsTaken (delivered n0 m) a.cell a.rev a.delta = (arrived n0 m e a by next).taken in
+    record { own = taken.own; there = taken.there; fits = taken.fits }
 
 foreign-over : (n0 : Parts) (c : Client) (m : Holder) (e : Entry) (a : Arriving) → Mirrors n0 c m → (new : IsArrived (delivered n0 m) (next_state n0 m e) a.cell a.rev a.delta) → IsOver a.delta (pending_of a.cell m.pending) new.taken.own.source
 foreign-over n0 c m e a is new = over-of a.delta (pending_of a.cell m.pending) new.taken.own.source new.taken.fits (fits-over n0 c m a.cell new.taken.own is new.taken.there)
@@ -298,12 +304,12 @@ foreign-fits : (s t : State) (m : Holder) (k rev : ℕ) (x : List Step) → (is 
 foreign-fits s t m k rev x is over old =
     fits-either t (all_moved k x m.pending) k
     (λ q at. let f = subst (FitsOver (text_after x is.taken.own.source)) (sym (shifted-same k x m.pending) ∙ at) over in
-    record { source = text_after x is.taken.own.source; there = here-source s t k rev x is; flight = f.0; buffer = f.1 })
+    record { source = text_after x is.taken.own.source; there = cell-source s t k rev x is; flight = f.0; buffer = f.1 })
     (λ j q ne at. beside-fits s t k rev j x q is ne (old j q (sym (shifted-other k j x m.pending ne) ∙ at)))
 
 -- another's delta was applied
 pub foreign-mirrors : (n0 : Parts) (c c' : Client) (m : Holder) (e : Entry) (a : Arriving) → Mirrors n0 c m → IsNextEntry n0 m e → CameBy e.call e.reply a → a.client ≢ c.number → (f : IsForeign n0 c m a.cell a.delta)
-    → IsMovedOver c c' m a.cell a.rev a.delta (text_after (over_option a.delta (pending_of a.cell m.pending)) f.own.source) → Mirrors n0 (record c' { cursor = length m.seen + 1 }) (received_entry n0 m e)
+    → IsMovedOver (delivered n0 m).book c c' m a.cell a.rev a.delta (text_after (over_option a.delta (pending_of a.cell m.pending)) f.own.source) → Mirrors n0 (record c' { cursor = length m.seen + 1 }) (received_entry n0 m e)
 foreign-mirrors n0 c c' m e a is next by other f moved =
     let s : State = delivered n0 m in
     let t : State = next_state n0 m e in
@@ -318,53 +324,6 @@ foreign-mirrors n0 c c' m e a is next by other f moved =
     (arrived-mirrors n0 c c' m m' e a.cell a.rev a.delta is new refl refl
     (record { number = ap (λ (x : Client). x.number) moved.same; revs = ap (λ (x : Client). x.revs) moved.same; nothing = ap (λ (x : Client). x.nothing) moved.same })
     (record { pending = moved.edits.pending; outbox = moved.edits.outbox; apart = moved.edits.apart })
-    (ap (λ (x : Client). x.book) moved.same ∙ (ap (with_source a.cell (text_after (over_option a.delta o) f.own.source)) is.book ∙ foreign-book s t m a.cell a.rev a.delta (text_after (over_option a.delta o) f.own.source) new is.numbers text))
+    moved.texts
+    (ap (λ (x : Client). x.book) moved.same ∙ (ap (with_source a.cell (text_after (over_option a.delta o) f.own.source)) is.book ∙ foreign-book s t m a.cell a.rev a.delta (text_after (over_option a.delta o) f.own.source) new (live-apart s.book is.notebook) text))
     (foreign-fits s t m a.cell a.rev a.delta new over.after is.fits))
-
--- what changes neither a source nor a revision
-record IsStill (s t : State) : Type 0 where
-  book : t.book ≡ s.book
-  taken : t.taken ≡ s.taken
-
-still-call : (s : State) (call : Call) (answer : Reply) → arriving call answer ≡ None → IsStill s (after_call s call answer)
-still-call s (ByClient n (Delta k base d)) (Applied rev x) e = absurd (cc e)
-still-call s (ByClient n Join) Accepted e = record { book = refl; taken = refl }
-still-call s (ByClient n (Queue cell)) Accepted e = record { book = refl; taken = refl }
-still-call s (Start lane) (Started eval cell) e = record { book = refl; taken = refl }
-still-call s (Respond eval shown) (Stored i) e = record { book = refl; taken = refl }
-still-call s call answer e = record { book = refl; taken = refl }
-
-still-received : (m : Holder) (call : Call) (answer : Reply) → arriving call answer ≡ None → with_call m call answer ≡ m
-still-received m (ByClient n (Delta k base d)) (Applied rev x) e = absurd (cc e)
-still-received m call answer e = refl
-
-still-after : (s : State) (e : Entry) → arriving e.call e.reply ≡ None → IsStill s (after s e)
-still-after s e none = let h : IsStill s (after_call s e.call e.reply) = still-call s e.call e.reply none in record { book = h.book; taken = h.taken }
-
-revs-still : (s t : State) (cs : List Cell) → t.taken ≡ s.taken → revisions_of t cs ≡ revisions_of s cs
-revs-still s t [] e = refl
-revs-still s t (c ∷ cs) e = ap (λ ts. (c.id, length (taken_by c.id ts)) ∷ revisions_of t cs) e ∙ ap (λ rs. (c.id, revision s c.id) ∷ rs) (revs-still s t cs e)
-
-still-fits : (s t : State) (j : ℕ) (p : Pending) → IsStill s t → FitsHere s j p → FitsHere t j p
-still-fits s t j p is f = record { source = f.source; there = subst (λ n. HasSource n j f.source) (sym is.book) f.there; flight = f.flight; buffer = f.buffer }
-
--- any other entry moves the cursor alone
-pub still-mirrors : (n0 : Parts) (c : Client) (m : Holder) (e : Entry) → Mirrors n0 c m → arriving e.call e.reply ≡ None → Mirrors n0 (record c { cursor = length m.seen + 1 }) (received_entry n0 m e)
-still-mirrors n0 c m e is none =
-    let s : State = delivered n0 m in
-    let t : State = next_state n0 m e in
-    let same : IsStill s t = subst (IsStill s) (sym (state-append n0 m.seen e)) (still-after s e none) in
-    let m' : Holder = seen_more m e in
-    subst (Mirrors n0 (record c { cursor = length m.seen + 1 })) (sym (still-received m' e.call e.reply none))
-    (record {
-      number = is.number;
-      cursor = sym (length-append m.seen (e ∷ []));
-      book = is.book ∙ ap (resourced (own_source m.pending)) (sym same.book);
-      revs = is.revs ∙ (sym (revs-still s t (cells s.book) same.taken) ∙ ap (λ n. revisions_of t (cells n)) (sym same.book));
-      pending = is.pending;
-      outbox = is.outbox;
-      nothing = is.nothing;
-      apart = is.apart;
-      fits = λ j p at. still-fits s t j p same (is.fits j p at);
-      numbers = subst (λ n. AreDistinct (map cell_number (cells n))) (sym same.book) is.numbers;
-    })

@@ -1,9 +1,11 @@
--- What an edit's error tells.
-use Rattle.std.specs.Prelude.{◌≡◌}
+-- What the errors of an edit and of a report tell.
+use Rattle.std.specs.Prelude.{◌≡◌, Option, None}
 use Rattle.session_ops.specs.State.{Past, Splits}
 use Rattle.client_sync.specs.declared.edit_error.EditError.{EditError}
 use Rattle.client_sync.specs.declared.edit_error.EditError.TheVariants.{NoCell, EditTooLong, PastEnd, SplitsPair, OutOfMemory}
-use Rattle.client_sync.specs.Client.{Edited, NoCell as NoSuchCell, EditTooLong as TooLong, Unfit}
+use Rattle.client_sync.specs.declared.post_error.PostError.{PostError}
+use Rattle.client_sync.specs.declared.post_error.PostError.TheVariants as post
+use Rattle.client_sync.specs.Client.{Client, Edited, NoCell as NoSuchCell, EditTooLong as TooLong, Unfit}
 
 -- why the edit is refused; want of memory tells nothing
 abbrev pub IsEditCause : Edited → EditError → Type 0
@@ -12,3 +14,8 @@ IsEditCause e EditTooLong = e ≡ TooLong
 IsEditCause e (PastEnd len) = e ≡ Unfit (Past len)
 IsEditCause e (SplitsPair at) = e ≡ Unfit (Splits at)
 IsEditCause e OutOfMemory = Unit {0}
+
+-- why the report isn't posted
+abbrev pub IsPostCause : Option Client → PostError → Type 0
+IsPostCause o post.NoCell = o ≡ None
+IsPostCause o post.OutOfMemory = Unit {0}

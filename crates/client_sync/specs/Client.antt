@@ -7,13 +7,16 @@ use Rattle.notebook.specs.declared.parts.Cell.{Cell}
 use Rattle.notebook.specs.declared.parts.Parts.{Parts}
 use Rattle.notebook.specs.Book.{cells, found, resourced}
 use Rattle.session_ops.specs.declared.entry.Op.{Op}
-use Rattle.session_ops.specs.declared.entry.Op.TheVariants.{Delta}
+use Rattle.session_ops.specs.declared.entry.Op.TheVariants.{Delta, Report}
 use Rattle.session_ops.specs.declared.entry.Call.{Call}
 use Rattle.session_ops.specs.declared.entry.Call.TheVariants.{Client as ByClient}
 use Rattle.session_ops.specs.declared.entry.Reply.{Reply}
-use Rattle.session_ops.specs.declared.entry.Reply.TheVariants.{Applied}
+use Rattle.session_ops.specs.declared.entry.Reply.TheVariants.{Applied, Refused}
 use Rattle.session_ops.specs.declared.entry.Entry.{Entry}
+use Rattle.session_ops.specs.Structure.{change_of}
 use Rattle.session_ops.specs.State.{State, state, revision, Misfit, misfit}
+use Rattle.notebook.specs.declared.change.Change.{Change}
+use Rattle.notebook.specs.Living.{gone_cells}
 
 -- a cell with a delta in flight, and what was edited since
 pub record Pending : Type 0 where
@@ -113,15 +116,39 @@ abbrev pub all_moved : ℕ → List Step → List Pending → List Pending
 all_moved cell x [] = []
 all_moved cell x (p ∷ ps) = moved cell x p ∷ all_moved cell x ps
 
--- what an entry makes of the pending edits and the outbox
-abbrev pub with_call : Client → Call → Reply → Client
-with_call c (ByClient n (Delta cell base d)) (Applied rev x) =
+-- a client's report of a cell's revision at its last delivery; nothing where it has no such cell
+abbrev pub with_report : Client → ℕ → ℕ → Option Cell → Option Client
+with_report c cell rev None = None
+with_report c cell rev (Some own) = Some (with_message c (Report cell rev))
+
+abbrev pub reported : Parts → Client → ℕ → Option Client
+reported n0 c cell = with_report c cell (revision (delivered n0 c) cell) (found cell (cells (held n0 c)))
+
+-- without what is pending for these cells
+abbrev pub without_cells : List Cell → List Pending → List Pending
+without_cells [] ps = ps
+without_cells (own ∷ cs) ps = without_cells cs (without own.id ps)
+
+-- the live cells that an operation takes away, if it is accepted: a deleted cell, and those of a deleted section
+abbrev pub gone_by : Parts → Option Change → List Cell
+gone_by n None = []
+gone_by n (Some asked) = gone_cells n asked
+
+-- what a client's operation makes of the pending edits and the outbox, where this was the state before: a refused one changes nothing
+abbrev pub with_op : State → Client → ℕ → Op → Reply → Client
+with_op s c n op (Refused why) = c
+with_op s c n (Delta cell base d) (Applied rev x) =
     if n == c.number then with_own c cell rev (pending_of cell c.pending) else record c { pending = all_moved cell x c.pending }
-with_call c call answer = c
+with_op s c n op answer = record c { pending = without_cells (gone_by s.book (change_of op)) c.pending }
+
+-- what an entry makes of them; evaluations leave them
+abbrev pub with_call : State → Client → Call → Reply → Client
+with_call s c (ByClient n op) answer = with_op s c n op answer
+with_call s c call answer = c
 
 -- the client after the next entry of the history that the notebook opened
 abbrev pub received_entry : Parts → Client → Entry → Client
-received_entry n0 c e = with_call (record c { seen = c.seen ++ e ∷ [] }) e.call e.reply
+received_entry n0 c e = with_call (delivered n0 c) (record c { seen = c.seen ++ e ∷ [] }) e.call e.reply
 
 abbrev pub received : Parts → Client → List Entry → Client
 received n0 c [] = c
@@ -130,6 +157,11 @@ received n0 c (e ∷ es) = received n0 (received_entry n0 c e) es
 -- a client that joined with these entries
 abbrev pub joined_client : ℕ → List Entry → Client
 joined_client n seen = record { number = n; seen = seen; pending = []; outbox = [] }
+
+-- the clients without the one of a number
+abbrev pub without_client : ℕ → List Client → List Client
+without_client n [] = []
+without_client n (c ∷ cs) = if c.number == n then without_client n cs else c ∷ without_client n cs
 
 -- the client of a number, and a client put in the place of the one of its number
 abbrev pub client_of : ℕ → List Client → Option Client

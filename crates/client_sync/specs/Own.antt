@@ -32,3 +32,7 @@ IsOwnFault n cell d EditTooLong = ((c : Cell) × (found cell (cells n) ≡ Some 
 IsOwnFault n cell d (PastEnd len) = IsOwnMisfit n cell d (Past len)
 IsOwnFault n cell d (SplitsPair at) = IsOwnMisfit n cell d (Splits at)
 IsOwnFault n cell d OutOfMemory = Unit {0}
+
+-- a cell's source
+abbrev pub source_of : Cell → List ℕ
+source_of c = c.source

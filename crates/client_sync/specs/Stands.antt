@@ -1,33 +1,41 @@
 -- What a client in memory stands for.
-use Rattle.std.specs.Prelude.{◌≡◌, ℕ, List, [], ◌∷◌, ◌++◌, length, map, Option, Some, None}
+use Rattle.std.specs.Prelude.{◌≡◌, ◌≤◌, ℕ, true, List, [], ◌∷◌, ◌++◌, length, map, Option, Some, None}
 use Rattle.std.specs.Option.{option_copied}
+use Rattle.std.specs.List.{AllByRecursion}
 use Rattle.delta.specs.declared.Step.{Step}
 use Rattle.notebook.specs.declared.parts.Cell.{Cell}
 use Rattle.notebook.specs.declared.parts.Parts.{Parts}
-use Rattle.notebook.specs.Book.{cells}
-use Rattle.notebook.specs.Rules.{AreDistinct, cell_number}
+use Rattle.notebook.specs.Rules.{AreDistinct, IsNotebook}
 use Rattle.session_ops.specs.declared.entry.Op.{Op}
-use Rattle.session_ops.specs.declared.entry.Op.TheVariants.{Join, Delta, Queue}
+use Rattle.session_ops.specs.declared.entry.Op.TheVariants.{Delta}
+use Rattle.session_ops.specs.Structure.{is_postable}
 use Rattle.session_ops.specs.declared.entry.Call.{Call}
 use Rattle.session_ops.specs.declared.entry.Call.TheVariants.{Client as ByClient}
 use Rattle.session_ops.specs.declared.entry.Reply.{Reply}
 use Rattle.session_ops.specs.declared.entry.Reply.TheVariants.{Applied}
 use Rattle.session_ops.specs.declared.entry.Entry.{Entry}
-use Rattle.session_ops.specs.State.{reply}
-use Rattle.session_ops.specs.Snapshot.{revisions_of}
+use Rattle.session_ops.specs.State.{State, reply, revision}
+use Rattle.session_ops.specs.Snapshot.{HasRevisions}
 use Rattle.client_sync.specs.Client.{Client as Holder, Pending, pending_of, held, delivered}
-use Rattle.client_sync.specs.Fits.{FitsHere}
+use Rattle.client_sync.specs.Fits.{HasSource, FitsHere}
 use Rattle.client_sync.specs.declared.client.Client.{Client}
 use Rattle.client_sync.specs.declared.pending.PendingEdits.{PendingEdits}
 use Rattle.client_sync.specs.declared.pending.Unconfirmed.{Unconfirmed}
+
+-- the text that the server had at the client's last delivery, kept beside a cell's unconfirmed edits
+abbrev pub HasServerText : Parts → Unconfirmed → Type 0
+HasServerText n u = HasSource n u.cell u.server
+
+abbrev pub HaveServerTexts : Parts → List Unconfirmed → Type 0
+HaveServerTexts n us = AllByRecursion (HasServerText n) us
 
 -- a cell's unconfirmed edits
 abbrev pub pending_in : Unconfirmed → Pending
 pending_in u = record { cell = u.cell; flight = u.flight; buffer = u.buffer }
 
 -- an edit that is in flight, with nothing edited since
-abbrev pub in_flight : ℕ → List Step → Unconfirmed
-in_flight cell d = record { cell = cell; flight = d; buffer = [] }
+abbrev pub in_flight : ℕ → List ℕ → List Step → Unconfirmed
+in_flight cell server d = record { cell = cell; server = server; flight = d; buffer = [] }
 
 -- the message that posts an edit
 abbrev pub edit_message : ℕ → ℕ → List Step → Op
@@ -53,24 +61,28 @@ pub record IsPendingAt (us : List Unconfirmed) (k at : ℕ) : Type 0 where
   pub place : at ≡ length front
   pub first : pending_of k (map pending_in front) ≡ None
 
--- the client in memory stands for this one: its notebook is what this one holds, its revisions are those at the last delivery, its cells have numbers of their own, and all that is pending fits there
+-- no delta was applied to a number that no cell has been given yet, as in each legal history
+abbrev pub TouchesMadeCells : State → Type 0
+TouchesMadeCells s = (cell : ℕ) → s.book.next_cell ≤ cell → revision s cell ≡ 0
+
+-- the client in memory stands for this one: its notebook is what this one holds, its revisions are those at the last delivery, all that is pending fits there, and it keeps the server's text of each cell that has something pending
 pub record Mirrors (n0 : Parts) (c : Client) (m : Holder) : Type 0 where
   pub number : c.number ≡ m.number
   pub cursor : c.cursor ≡ length m.seen
   pub book : c.book ≡ held n0 m
-  pub revs : c.revs ≡ revisions_of (delivered n0 m) (cells (delivered n0 m).book)
+  pub revs : HasRevisions (delivered n0 m) c.revs
   pub pending : map pending_in c.pending ≡ m.pending
   pub outbox : c.outbox ≡ m.outbox
   pub nothing : c.nothing ≡ []
   pub apart : AreDistinct (map pending_cell m.pending)
   pub fits : (k : ℕ) (p : Pending) → pending_of k m.pending ≡ Some p → FitsHere (delivered n0 m) k p
-  pub numbers : AreDistinct (map cell_number (cells (delivered n0 m).book))
+  pub texts : HaveServerTexts (delivered n0 m).book c.pending
+  pub notebook : IsNotebook (delivered n0 m).book
+  pub made : TouchesMadeCells (delivered n0 m)
 
--- an operation that may be posted as it is: joins and deltas can't be
+-- an operation that may be posted as it is
 abbrev pub IsPostable : Op → Type 0
-IsPostable Join = ⊥
-IsPostable (Delta cell base d) = ⊥
-IsPostable (Queue cell) = Unit {0}
+IsPostable op = is_postable op ≡ true
 
 -- a delta of the client's own that came back is what it has in flight
 abbrev pub IsOwnFlight : Holder → Call → Reply → Type 0

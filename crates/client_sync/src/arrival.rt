@@ -1,10 +1,12 @@
 //! What an entry of the history tells a client.
-ghost use Rattle.std.specs.Prelude.{◌≡◌, Some, None, MatchOption};
-ghost use Rattle.client_sync.specs.Arrivals.{arriving, arriving_in};
+ghost use Rattle.std.specs.Prelude.{◌≡◌, Some, None, IfOk, MatchOption};
+ghost use Rattle.client_sync.specs.Arrivals.{accepted_change, arriving, arriving_in};
 
+use crate::changes::change_of;
 use delta::Delta;
-use notebook::CellId;
+use notebook::{CellId, Change};
 use session_ops::{Call, Entry, Op, Reply};
+use std::alloc::AllocError;
 
 /// A delta that was applied: whose it was, to which cell, which revision it made, and what was
 /// applied.
@@ -34,5 +36,16 @@ pub(crate) fn applied_by(entry: &Entry) -> Option<Arrival<'_>>
             delta,
         }),
         _ => None,
+    }
+}
+
+/// The change of the notebook that an entry made, if it made one.
+pub(crate) fn accepted_change(entry: &Entry) -> Result<Option<Change>, AllocError>
+    ensures { IfOk result (λ asked. asked ≡ accepted_change entry.now.call entry.now.reply) }
+{
+    match (&entry.call, &entry.reply) {
+        (Call::Client { .. }, Reply::Refused(_)) => Ok(None),
+        (Call::Client { op, .. }, _) => change_of(op),
+        _ => Ok(None),
     }
 }

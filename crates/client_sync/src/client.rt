@@ -1,31 +1,39 @@
 //! A client in memory.
-ghost use Rattle.std.specs.Prelude.{◌≡◌, ℕ, ◌+◌, ◌<◌, ◌∷◌, ◌++◌, [], false, true, List, Some, IfOk, OnOk, OnErr, MatchResult, length, map, slice_get};
-ghost use Rattle.std.specs.Option.{option_copied};
+ghost use Rattle.std.specs.Prelude.{◌≡◌, ℕ, ◌+◌, ◌^◌, ◌<◌, ◌↔◌, ◌∷◌, ◌++◌, [], false, true, IsTrue, List, Some, IfOk, OnOk, OnErr, MatchResult, length, map, slice_get};
+ghost use Rattle.std.specs.Option.{option_copied, option_map};
 ghost use Rattle.notebook.specs.declared.parts.Parts.{Parts};
 ghost use Rattle.notebook.specs.Book.{cells, found};
-ghost use Rattle.notebook.specs.Rules.{AreDistinct, cell_number};
+ghost use Rattle.notebook.specs.Rules.{IsNotebook, cell_number};
+ghost use Rattle.notebook.specs.declared.change.Changed.{Changed};
+ghost use Rattle.notebook.specs.Change.{Makes, change};
+ghost use Rattle.notebook.specs.Living.{gone_cells};
 ghost use Rattle.session_ops.specs.declared.entry.Entry.{Entry};
 ghost use Rattle.session_ops.specs.State.{state};
-ghost use Rattle.session_ops.specs.Snapshot.{IsSnapshot, revisions_of};
-ghost use Rattle.client_sync.specs.Client.{Client as Holder, Done, edited, held, delivered, joined_client, with_message, received_entry, pending_of, with_edit, with_own, all_moved};
-ghost use Rattle.client_sync.specs.Own.{IsOwnText, IsOwnFault};
+ghost use Rattle.session_ops.specs.Snapshot.{HasRevisions, IsSnapshot, live_revision};
+ghost use Rattle.client_sync.specs.Client.{Client as Holder, Pending, Done, edited, reported, held, delivered, joined_client, with_message, received_entry, pending_of, with_edit, with_own, all_moved, without};
+ghost use Rattle.client_sync.specs.Fits.{HasSource};
+ghost use Rattle.client_sync.specs.Going.{ArePendingBelow, HasChanged, HasForgotten, IsOver, without_numbers};
+ghost use Rattle.client_sync.specs.Own.{IsOwnText, IsOwnFault, source_of};
 ghost use Rattle.client_sync.specs.declared.pending.Unconfirmed.{Unconfirmed};
 ghost use Rattle.delta.specs.Moves.{FitsText, composed, transformed, text_after};
 ghost use Rattle.delta.specs.Sides.{is_right};
 ghost use Rattle.notebook.specs.declared.parts.Cell.{Cell};
-ghost use Rattle.client_sync.specs.Moving.{over_pending, over_option, IsMovedOver};
-ghost use Rattle.client_sync.specs.Revisions.{raised};
-ghost use Rattle.client_sync.specs.Causes.{IsEditCause};
-ghost use Rattle.client_sync.specs.Stands.{Mirrors, number_in, IsPostable, IsNextEntry, HasTaken, IsPendingOf, IsViewOf, HasEdits, IsPendingAt, in_flight, edit_message, pending_in};
+ghost use Rattle.client_sync.specs.Moving.{over_pending, over_option, FitsCell, book_after, IsMovedOver};
+ghost use Rattle.client_sync.specs.Revisions.{raised, with_made, without_revision};
+ghost use Rattle.client_sync.specs.Arrivals.{arriving, arriving_in};
+ghost use Rattle.client_sync.specs.Causes.{IsEditCause, IsPostCause};
+ghost use Rattle.client_sync.specs.Stands.{Mirrors, TouchesMadeCells, HaveServerTexts, number_in, IsPostable, IsNextEntry, HasTaken, IsPendingOf, IsViewOf, HasEdits, IsPendingAt, in_flight, edit_message, pending_in};
 
-use crate::arrival::applied_by;
+use crate::arrival::{Arrival, accepted_change, applied_by};
+use crate::changes::gone_numbers;
 use crate::edit_error::EditError;
 use crate::outbox::Outbox;
 use crate::pending::{PendingEdits, Unconfirmed, place_of};
-use crate::revs::{raise, rev_in};
+use crate::post_error::PostError;
+use crate::revs::{add_made, raise, remove, rev_in};
 use delta::{ApplyError, Delta, Side, compose, have_room, transform};
 use delta_laws::nothing;
-use notebook::{CellId, Notebook};
+use notebook::{CellId, Change, Notebook};
 use plain_list::Items;
 use session_ops::{Entry, Op, Snapshot};
 use std::alloc::{AllocError, Global};
@@ -34,6 +42,9 @@ use utf16_text::Text;
 
 /// The most UTF-16 units that an edit may insert.
 const MOST_INSERTED: u64 = 65_536;
+
+/// No notebook has as many cells or sections in its life.
+const MOST_NUMBERS: u64 = 1 << 63;
 
 /// A notebook as of the client's last delivery, with the client's own unconfirmed edits done to it; and
 /// the messages that the server hasn't taken yet.
@@ -52,10 +63,10 @@ pub struct Client {
 impl Client {
     /// A client that has just joined, with the snapshot of the session as it then was.
     pub fn join(alloc: Global, number: u32, snapshot: Snapshot) -> Result<Client, AllocError>
-        ensures { (n0 : Parts) (seen : List Entry) → IsSnapshot (state n0 seen) (length seen) snapshot → IfOk result (λ c. Mirrors n0 c (joined_client number seen)) }
+        ensures { (n0 : Parts) (seen : List Entry) → IsSnapshot (state n0 seen) (length seen) snapshot → TouchesMadeCells (state n0 seen) → IfOk result (λ c. Mirrors n0 c (joined_client number seen)) }
     {
         let Snapshot { book, revs, cursor } = snapshot;
-        are_apart(&book);
+        keeps_rules(&book);
         Ok(Client {
             alloc,
             number,
@@ -81,11 +92,13 @@ impl Client {
             (λ e. IsEditCause (edited n0 m cell delta.now) e) }
         ensures refused { OnErr result (self.new ≡ self.old) }
     {
+        let Some(base) = rev_in(self.revs.as_slice(), cell) else {
+            return Err(EditError::NoCell);
+        };
         let text = self.edited_text(cell, delta)?;
         if delta.is_empty() {
             return Ok(());
         }
-        let base = rev_in(self.revs.as_slice(), cell);
         if self.note_edit(cell, base, delta).is_err() {
             return Err(EditError::OutOfMemory);
         }
@@ -111,22 +124,45 @@ impl Client {
         }
     }
 
-    /// Notes an edit of a cell, made at the revision `base`: with nothing of the cell in flight it is
-    /// posted, and else it goes into the buffer. The notebook stays. After an error nothing is changed.
+    /// Notes an edit of a cell that the client has, made at the revision `base`: with nothing of the
+    /// cell in flight it is posted, and else it goes into the buffer. The notebook stays. After an error
+    /// nothing is changed.
     fn note_edit(&mut self, cell: CellId, base: u64, delta: &Delta) -> Result<(), AllocError>
-        ensures noted { (m : Holder) → HasEdits self.old.pending self.old.outbox m → OnOk result (HasEdits self.new.pending self.new.outbox (with_edit m cell base delta.now (pending_of cell m.pending))) }
+        ensures noted { (m : Holder) (own : Cell) → HasEdits self.old.pending self.old.outbox m → found cell (cells self.old.book) ≡ Some own → OnOk result (HasEdits self.new.pending self.new.outbox (with_edit m cell base delta.now (pending_of cell m.pending))) }
+        ensures texts { (n : Parts) (own : Cell) → HaveServerTexts n self.old.pending → found cell (cells self.old.book) ≡ Some own → (pending_of cell (map pending_in self.old.pending) ≡ None → HasSource n cell own.source) → OnOk result (HaveServerTexts n self.new.pending) }
         ensures rest { self.new ≡ record self.old { pending = self.new.pending; outbox = self.new.outbox } }
         ensures err { OnErr result (self.new ≡ self.old) }
     {
         match place_of(self.pending.as_slice(), cell) {
-            None => self.post_edit(cell, base, delta),
+            None => self.begin_edit(cell, base, delta),
             Some(at) => self.buffer_edit(at, delta),
         }
     }
 
-    /// Puts an edit in flight, and its message at the outbox's end. After an error nothing is changed.
-    fn post_edit(&mut self, cell: CellId, base: u64, delta: &Delta) -> Result<(), AllocError>
-        ensures posted { OnOk result (self.new ≡ record self.old { pending = self.old.pending ++ in_flight cell delta.now ∷ []; outbox = self.old.outbox ++ edit_message cell base delta.now ∷ [] }) }
+    /// Posts the first edit of a cell, whose text is the server's. After an error nothing is changed.
+    fn begin_edit(&mut self, cell: CellId, base: u64, delta: &Delta) -> Result<(), AllocError>
+        ensures posted { (own : Cell) → found cell (cells self.old.book) ≡ Some own → OnOk result (self.new ≡ record self.old { pending = self.old.pending ++ in_flight cell own.source delta.now ∷ []; outbox = self.old.outbox ++ edit_message cell base delta.now ∷ [] }) }
+        ensures rest { self.new ≡ record self.old { pending = self.new.pending; outbox = self.new.outbox } }
+        ensures err { OnErr result (self.new ≡ self.old) }
+    {
+        let Some(own) = self.book.find(cell) else {
+            return Ok(());
+        };
+        let server = own.source.copy()?;
+        self.post_edit(cell, base, server, delta)?;
+        Ok(())
+    }
+
+    /// Puts an edit in flight over the server's text, and its message at the outbox's end. After an error
+    /// nothing is changed.
+    fn post_edit(
+        &mut self,
+        cell: CellId,
+        base: u64,
+        server: Text,
+        delta: &Delta,
+    ) -> Result<(), AllocError>
+        ensures posted { OnOk result (self.new ≡ record self.old { pending = self.old.pending ++ in_flight cell server delta.now ∷ []; outbox = self.old.outbox ++ edit_message cell base delta.now ∷ [] }) }
         ensures err { OnErr result (self.new ≡ self.old) }
     {
         let flight = delta.copy(self.alloc)?;
@@ -139,6 +175,7 @@ impl Client {
         let buffer = nothing(self.alloc);
         match self.pending.push(Unconfirmed {
             cell,
+            server,
             flight,
             buffer,
         }) {
@@ -171,6 +208,25 @@ impl Client {
         Ok(())
     }
 
+    /// Posts the cell's revision at the client's last delivery: a promise to build on none before it.
+    ///
+    /// It answers `NoCell` exactly where the client has no such cell. After each error, want of memory
+    /// too, the client is as it was.
+    pub fn post_report(&mut self, cell: CellId) -> Result<(), PostError>
+        ensures posted { (n0 : Parts) (m : Holder) → Mirrors n0 self.old m → MatchResult result
+            (λ _. (m' : Holder) × ((reported n0 m cell ≡ Some m') × Mirrors n0 self.new m'))
+            (λ e. IsPostCause (reported n0 m cell) e) }
+        ensures refused { OnErr result (self.new ≡ self.old) }
+    {
+        let Some(rev) = rev_in(self.revs.as_slice(), cell) else {
+            return Err(PostError::NoCell);
+        };
+        match self.outbox.push(Op::Report { cell, rev }) {
+            Ok(()) => Ok(()),
+            Err(_) => Err(PostError::OutOfMemory),
+        }
+    }
+
     /// The message at the outbox's front; `None` exactly where the outbox is empty. Takes no memory.
     pub fn outbox_front(&self) -> Option<&Op>
         ensures { option_copied result ≡ slice_get self.now.outbox 0 }
@@ -195,7 +251,9 @@ impl Client {
 
     /// Receives the next entry of the history. A client's own delta that came back ends what was in
     /// flight, and a buffer that isn't empty is posted; another's delta moves what is pending for its
-    /// cell, and goes first in every tie. Nothing is said of the client after want of memory.
+    /// cell, and goes first in every tie. A change of the notebook's structure is made, and what is
+    /// pending for a cell that it deletes goes: the bin gets the server's text. Nothing is said of the
+    /// client after want of memory.
     pub fn receive(&mut self, entry: &Entry) -> Result<(), AllocError>
         ensures { (n0 : Parts) (m : Holder) → Mirrors n0 self.old m → IsNextEntry n0 m entry.now → OnOk result (Mirrors n0 self.new (received_entry n0 m entry.now)) }
     {
@@ -212,14 +270,93 @@ impl Client {
         ensures { (n0 : Parts) (m : Holder) → Mirrors n0 self.old m → IsNextEntry n0 m entry.now → OnOk result (Mirrors n0 (record self.new { cursor = length m.seen + 1 }) (received_entry n0 m entry.now)) }
     {
         match applied_by(entry) {
+            None => self.take_other(entry),
+            Some(applied) => self.take_applied(&applied),
+        }
+    }
+
+    /// Takes in an entry that applied no delta: the change that it made, if it made one.
+    fn take_other(&mut self, entry: &Entry) -> Result<(), AllocError>
+        ensures { (n0 : Parts) (m : Holder) → Mirrors n0 self.old m → IsNextEntry n0 m entry.now → arriving entry.now.call entry.now.reply ≡ None → OnOk result (Mirrors n0 (record self.new { cursor = length m.seen + 1 }) (received_entry n0 m entry.now)) }
+    {
+        match accepted_change(entry)? {
             None => Ok(()),
-            Some(applied) => {
-                if applied.client == self.number {
-                    self.take_own(applied.cell, applied.rev)
-                } else {
-                    self.take_foreign(applied.cell, applied.rev, applied.delta)
-                }
-            }
+            Some(asked) => self.take_change(asked),
+        }
+    }
+
+    /// Takes in a change that was made: what is pending for the cells that it takes away goes, the change
+    /// is made, and the list of revisions follows.
+    fn take_change(&mut self, asked: Change) -> Result<(), AllocError>
+        ensures { (n n' : Parts) (ps : List Pending) (made : Changed) → IsOver n self.old ps → ArePendingBelow n.next_cell ps → change n asked ≡ Makes n' made → OnOk result (HasChanged n n' self.old self.new (without_numbers (map cell_number (gone_cells n asked)) ps) (map cell_number (gone_cells n asked)) made) }
+    {
+        if !may_grow(&self.book) {
+            return Err(AllocError);
+        }
+        let gone = gone_numbers(self.alloc, &self.book, &asked)?;
+        self.forget_all(&gone);
+        self.make(asked)
+    }
+
+    /// Makes a change of the client's own notebook, and puts the cell that it made, if it made one, into
+    /// the list of revisions. No change is refused here that wasn't refused by the session.
+    fn make(&mut self, asked: Change) -> Result<(), AllocError>
+        requires cells { self.old.book.next_cell < 2 ^ 63 }
+        requires sections { self.old.book.next_section < 2 ^ 63 }
+        ensures { OnOk result ((n' : Parts) × ((made : Changed) × ((change self.old.book asked ≡ Makes n' made) × (self.new ≡ record self.old { book = n'; revs = with_made made self.old.revs })))) }
+    {
+        match self.book.change(self.alloc, asked) {
+            Ok(made) => add_made(&mut self.revs, made),
+            Err(_) => Err(AllocError),
+        }
+    }
+
+    /// Drops what is pending for some cells, and their revisions.
+    fn forget_all(&mut self, cells: &[CellId])
+        ensures { HasForgotten self.old self.new cells.now }
+    {
+        for cell in cells {
+            self.forget(*cell);
+        }
+    }
+
+    /// Drops what is pending for a cell, whose text is the server's again, and the cell's revision.
+    fn forget(&mut self, cell: CellId)
+        ensures { HasForgotten self.old self.new (cell ∷ []) }
+    {
+        self.remove_revision(cell);
+        self.drop_pending(cell);
+    }
+
+    /// Drops what is pending for a cell, whose text is the server's again.
+    fn drop_pending(&mut self, cell: CellId)
+        ensures over { (n : Parts) (ps : List Pending) → IsOver n self.old ps → IsOver n self.new (without cell ps) }
+        ensures rest { self.new ≡ record self.old { book = self.new.book; pending = self.new.pending } }
+        ensures numbers { (self.new.book.next_cell ≡ self.old.book.next_cell) × (self.new.book.next_section ≡ self.old.book.next_section) }
+    {
+        if let Some(at) = place_of(self.pending.as_slice(), cell) {
+            let edits = self.take_out(at);
+            self.book.set_source(cell, edits.server);
+        }
+    }
+
+    /// Takes a cell out of the list of revisions.
+    fn remove_revision(&mut self, cell: CellId)
+        ensures { self.new ≡ record self.old { revs = without_revision cell self.old.revs } }
+    {
+        let mut revs = mem::replace(&mut self.revs, Items::new(self.alloc)).into_vec();
+        remove(&mut revs, cell);
+        self.revs = Items::from_vec(revs);
+    }
+
+    /// Takes in a delta that was applied; the cursor stays.
+    fn take_applied(&mut self, applied: &Arrival<'_>) -> Result<(), AllocError>
+        ensures { (n0 : Parts) (m : Holder) (e : Entry) → Mirrors n0 self.old m → IsNextEntry n0 m e → arriving e.call e.reply ≡ Some (arriving_in applied.now) → OnOk result (Mirrors n0 (record self.new { cursor = length m.seen + 1 }) (received_entry n0 m e)) }
+    {
+        if applied.client == self.number {
+            self.take_own(applied.cell, applied.rev)
+        } else {
+            self.take_foreign(applied.cell, applied.rev, applied.delta)
         }
     }
 
@@ -227,6 +364,7 @@ impl Client {
     /// notebook stays.
     fn take_own(&mut self, cell: CellId, rev: u64) -> Result<(), AllocError>
         ensures taken { (m : Holder) → HasEdits self.old.pending self.old.outbox m → OnOk result (HasEdits self.new.pending self.new.outbox (with_own m cell rev (pending_of cell m.pending))) }
+        ensures texts { (n : Parts) (m : Holder) (p : Pending) → HaveServerTexts n self.old.pending → HasEdits self.old.pending self.old.outbox m → pending_of cell m.pending ≡ Some p → FitsCell n cell p.flight → OnOk result (HaveServerTexts (book_after cell p.flight n) self.new.pending) }
         ensures rest { OnOk result (self.new ≡ record self.old { revs = raised cell rev self.old.revs; pending = self.new.pending; outbox = self.new.outbox }) }
     {
         self.raise(cell, rev);
@@ -240,13 +378,15 @@ impl Client {
     fn acknowledge(&mut self, at: usize, cell: CellId, rev: u64) -> Result<(), AllocError>
         requires { at < length self.old.pending }
         ensures posted { (m : Holder) → HasEdits self.old.pending self.old.outbox m → IsPendingAt self.old.pending cell at → OnOk result (HasEdits self.new.pending self.new.outbox (with_own m cell rev (pending_of cell m.pending))) }
+        ensures texts { (n : Parts) (m : Holder) (p : IsPendingAt self.old.pending cell at) → HaveServerTexts n self.old.pending → HasEdits self.old.pending self.old.outbox m → FitsCell n cell p.here.flight → OnOk result (HaveServerTexts (book_after cell p.here.flight n) self.new.pending) }
         ensures rest { OnOk result (self.new ≡ record self.old { pending = self.new.pending; outbox = self.new.outbox }) }
     {
-        let done = self.take_out(at);
+        let mut done = self.take_out(at);
         if done.buffer.is_empty() {
             return Ok(());
         }
-        self.post_edit(cell, rev, &done.buffer)?;
+        move_text(self.alloc, &mut done.server, &done.flight)?;
+        self.post_edit(cell, rev, done.server, &done.buffer)?;
         Ok(())
     }
 
@@ -275,7 +415,7 @@ impl Client {
     /// pending for the cell is moved over it, and it is done to the client's own text. One that doesn't
     /// fit, as each of the client's own history does, leaves the text.
     fn take_foreign(&mut self, cell: CellId, rev: u64, delta: &Delta) -> Result<(), AllocError>
-        ensures { (n0 : Parts) (m : Holder) (own : Cell) → Mirrors n0 self.old m → found cell (cells self.old.book) ≡ Some own → FitsText (over_option delta.now (pending_of cell m.pending)) own.source → OnOk result (IsMovedOver self.old self.new m cell rev delta.now (text_after (over_option delta.now (pending_of cell m.pending)) own.source)) }
+        ensures { (n0 : Parts) (m : Holder) (own : Cell) → Mirrors n0 self.old m → FitsCell (delivered n0 m).book cell delta.now → found cell (cells self.old.book) ≡ Some own → FitsText (over_option delta.now (pending_of cell m.pending)) own.source → OnOk result (IsMovedOver (delivered n0 m).book self.old self.new m cell rev delta.now (text_after (over_option delta.now (pending_of cell m.pending)) own.source)) }
     {
         self.raise(cell, rev);
         let shown = self.move_pending(cell, delta)?;
@@ -290,6 +430,7 @@ impl Client {
     /// pending.
     fn move_pending(&mut self, cell: CellId, delta: &Delta) -> Result<Delta, AllocError>
         ensures moved { (m : Holder) → HasEdits self.old.pending self.old.outbox m → IfOk result (λ x. (x ≡ over_option delta.now (pending_of cell m.pending)) × HasEdits self.new.pending self.new.outbox (record m { pending = all_moved cell delta.now m.pending })) }
+        ensures texts { (n : Parts) (m : Holder) → HaveServerTexts n self.old.pending → HasEdits self.old.pending self.old.outbox m → FitsCell n cell delta.now → IfOk result (λ _. HaveServerTexts (book_after cell delta.now n) self.new.pending) }
         ensures rest { self.new ≡ record self.old { pending = self.new.pending } }
     {
         match place_of(self.pending.as_slice(), cell) {
@@ -334,9 +475,26 @@ impl Client {
         &self.book
     }
 
-    /// The revision of each live cell at the client's last delivery, in notebook order. Takes no memory.
+    /// The client's own text of a cell; `None` exactly where the client has no such cell. Takes no
+    /// memory.
+    pub fn text(&self, cell: CellId) -> Option<&Text>
+        ensures { (n0 : Parts) (m : Holder) → Mirrors n0 self.now m → option_copied result ≡ option_map source_of (found cell (cells (held n0 m))) }
+    {
+        let own = self.book.find(cell)?;
+        Some(&own.source)
+    }
+
+    /// The revision of a cell at the client's last delivery; `None` exactly where the client has no such
+    /// cell. Takes no memory.
+    pub fn rev(&self, cell: CellId) -> Option<u64>
+        ensures { (n0 : Parts) (m : Holder) → Mirrors n0 self.now m → result ≡ live_revision (delivered n0 m) cell }
+    {
+        rev_in(self.revs.as_slice(), cell)
+    }
+
+    /// The live cells with their revisions at the client's last delivery, in any order. Takes no memory.
     pub fn revs(&self) -> &[(CellId, u64)]
-        ensures { (n0 : Parts) (m : Holder) → Mirrors n0 self.now m → result.now ≡ revisions_of (delivered n0 m) (cells (delivered n0 m).book) }
+        ensures { (n0 : Parts) (m : Holder) → Mirrors n0 self.now m → HasRevisions (delivered n0 m) result.now }
     {
         self.revs.as_slice()
     }
@@ -377,25 +535,50 @@ fn joined(alloc: Global, a: &Delta, b: &Delta) -> Result<Delta, AllocError>
     compose(alloc, a, b)
 }
 
-/// The cells of a notebook have numbers of their own.
-fn are_apart(book: &Notebook)
-    ensures { AreDistinct (map cell_number (cells book.now)) }
+/// A notebook keeps the rules.
+fn keeps_rules(book: &Notebook)
+    ensures { IsNotebook book.now }
 {
     book.parts();
 }
 
-/// Moves pending edits over another's delta, which goes first in every tie, and gives the delta moved
-/// over what was in flight and then over what was buffered.
+/// Whether a notebook has numbers left for one more cell and one more section, as each that a machine
+/// holds has.
+fn may_grow(book: &Notebook) -> bool
+    ensures { IsTrue result ↔ ((book.now.next_cell < 2 ^ 63) × (book.now.next_section < 2 ^ 63)) }
+{
+    let parts = book.parts();
+    parts.next_cell < MOST_NUMBERS && parts.next_section < MOST_NUMBERS
+}
+
+/// Moves pending edits, and the server's text under them, over another's delta, which goes first in
+/// every tie, and gives the delta moved over what was in flight and then over what was buffered.
 fn move_over(alloc: Global, edits: &mut Unconfirmed, delta: &Delta) -> Result<Delta, AllocError>
-    ensures { IfOk result (λ x. (x ≡ over_pending delta.now (pending_in edits.old)) × (edits.new ≡ record edits.old { flight = transformed false delta.now edits.old.flight; buffer = transformed false (transformed true edits.old.flight delta.now) edits.old.buffer })) }
+    ensures moved { IfOk result (λ x. (x ≡ over_pending delta.now (pending_in edits.old)) × (edits.new ≡ record edits.old { server = edits.new.server; flight = transformed false delta.now edits.old.flight; buffer = transformed false (transformed true edits.old.flight delta.now) edits.old.buffer })) }
+    ensures server { FitsText delta.now edits.old.server → IfOk result (λ _. edits.new.server ≡ text_after delta.now edits.old.server) }
 {
     let over_flight = moved(alloc, &edits.flight, delta, Side::Right)?;
     let flight = moved(alloc, delta, &edits.flight, Side::Left)?;
     let shown = moved(alloc, &edits.buffer, &over_flight, Side::Right)?;
     let buffer = moved(alloc, &over_flight, &edits.buffer, Side::Left)?;
+    move_text(alloc, &mut edits.server, delta)?;
     edits.flight = flight;
     edits.buffer = buffer;
     Ok(shown)
+}
+
+/// Does a delta to a text. One that doesn't fit, as each of the client's own history does, leaves it.
+fn move_text(alloc: Global, text: &mut Text, delta: &Delta) -> Result<(), AllocError>
+    ensures { FitsText delta.now text.old → OnOk result (text.new ≡ text_after delta.now text.old) }
+{
+    match delta.apply(alloc, text) {
+        Ok(made) => {
+            *text = made;
+            Ok(())
+        }
+        Err(ApplyError::OutOfMemory) => Err(AllocError),
+        Err(ApplyError::PastEnd { .. } | ApplyError::SplitsPair { .. }) => Ok(()),
+    }
 }
 
 /// `right` as it goes after `left`. No machine holds deltas that have no room beside each other.

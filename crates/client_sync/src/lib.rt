@@ -7,15 +7,18 @@
 #![tactic(auto)]
 
 mod arrival;
+mod changes;
 mod client;
 mod edit_error;
 mod outbox;
 mod pending;
+mod post_error;
 mod revs;
 
 pub use client::Client;
 pub use edit_error::EditError;
 pub use pending::{PendingEdits, Unconfirmed};
+pub use post_error::PostError;
 
 #[cfg(test)]
 mod tests;

@@ -5,11 +5,14 @@ ghost use Rattle.client_sync.specs.Stands.{IsPendingAt, pending_in};
 
 use delta::Delta;
 use notebook::CellId;
+use utf16_text::Text;
 
-/// The unconfirmed edits of one cell: what was posted, and what was edited since.
+/// The unconfirmed edits of one cell: what was posted, and what was edited since, beside the text
+/// that the server had at the client's last delivery.
 #[derive(Debug, Drop)]
 pub struct Unconfirmed {
     pub cell: CellId,
+    pub server: Text,
     pub flight: Delta,
     pub buffer: Delta,
 }

@@ -1,19 +1,22 @@
-//! The revisions of a notebook's cells, as a list in notebook order.
-ghost use Rattle.std.specs.Prelude.{◌≡◌};
-ghost use Rattle.client_sync.specs.Revisions.{rev_among, raised_one, raised};
+//! The revisions of a notebook's cells, as a list.
+ghost use Rattle.std.specs.Prelude.{◌≡◌, OnOk};
+ghost use Rattle.client_sync.specs.Revisions.{raised_one, raised, with_made, without_revision};
+ghost use Rattle.session_ops.specs.Snapshot.{listed_revision};
 
-use notebook::CellId;
+use notebook::{CellId, Changed};
+use plain_list::Items;
+use std::alloc::AllocError;
 
-/// The revision of a cell; 0 where the list has none.
-pub(crate) fn rev_in(revs: &[(CellId, u64)], cell: CellId) -> u64
-    ensures { result ≡ rev_among revs.now cell }
+/// The revision of a cell; `None` where the list has no such cell.
+pub(crate) fn rev_in(revs: &[(CellId, u64)], cell: CellId) -> Option<u64>
+    ensures { result ≡ listed_revision cell revs.now }
 {
     for (id, rev) in revs {
         if *id == cell {
-            return *rev;
+            return Some(*rev);
         }
     }
-    0
+    None
 }
 
 /// The entry, with this revision where it is the cell's.
@@ -29,5 +32,25 @@ pub(crate) fn raise(revs: &mut [(CellId, u64)], cell: CellId, rev: u64)
 {
     for entry in revs.iter_mut() {
         *entry = raised_one(entry, cell, rev);
+    }
+}
+
+/// Takes a cell out of the list.
+pub(crate) fn remove(revs: &mut Vec<(CellId, u64)>, cell: CellId)
+    ensures { revs.new.items ≡ without_revision cell revs.old.items }
+{
+    revs.retain(|entry| entry.0 != cell);
+}
+
+/// Puts the cell that a change made, if it made one, at the list's end, with the revision 0.
+pub(crate) fn add_made(revs: &mut Items<(CellId, u64)>, made: Changed) -> Result<(), AllocError>
+    ensures { OnOk result (revs.new ≡ with_made made revs.old) }
+{
+    match made {
+        Changed::Plain | Changed::NewSection { .. } => Ok(()),
+        Changed::NewCell { cell } => {
+            revs.push((cell, 0))?;
+            Ok(())
+        }
     }
 }

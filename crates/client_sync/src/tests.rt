@@ -1,9 +1,9 @@
-//! Two people at one cell, and what an edit is refused for.
+//! Two people at one cell, what an edit is refused for, and cells that go and come.
 use super::*;
 use delta::{Delta, Step};
-use notebook::Notebook;
+use notebook::{CellKind, Notebook};
 use plain_list::Items;
-use session_ops::{Call, Entry, Op, Reply, Snapshot};
+use session_ops::{Call, Entry, Op, Refusal, Reply, Snapshot};
 use std::alloc::Global;
 use std::test::Fail;
 use utf16_text::Text;
@@ -67,13 +67,29 @@ fn tell(
     rev: u64,
     delta: Delta,
 ) -> Result<(), Fail> {
+    tell_of(client, alloc, 0, author, rev, delta)
+}
+
+/// The client receives a delta that was applied to a cell.
+fn tell_of(
+    client: &mut Client,
+    alloc: Global,
+    cell: u64,
+    author: u32,
+    rev: u64,
+    delta: Delta,
+) -> Result<(), Fail> {
     let op = Op::Delta {
-        cell: 0,
+        cell,
         base: 0,
         delta: delta.copy(alloc)?,
     };
+    tell_op(client, author, op, Reply::Applied { rev, delta })
+}
+
+/// The client receives an operation with its answer.
+fn tell_op(client: &mut Client, author: u32, op: Op, reply: Reply) -> Result<(), Fail> {
     let call = Call::Client { client: author, op };
-    let reply = Reply::Applied { rev, delta };
     Ok(client.receive(&Entry { by: 0, call, reply })?)
 }
 
@@ -280,5 +296,120 @@ fn messages_stand_in_their_order(rt: HostRuntime) -> Result<(), Fail> {
     assert!(rt; asks_first(&ann));
     assert!(rt; take_base(&mut ann).is_none() && take_base(&mut ann) == Some(0));
     assert!(rt; shows(&ann, "x", 0) && ann.number() == ANN);
+    Ok(())
+}
+
+/// Bob put in a section, and a code cell as the first of it.
+fn tell_cell(client: &mut Client, alloc: Global) -> Result<(), Fail> {
+    let name = Text::of(alloc, "Plan")?;
+    let section = Op::InsertSection { index: 0, name };
+    tell_op(client, BOB, section, Reply::NewSection { section: 1 })?;
+    let cell = Op::InsertCell {
+        section: 1,
+        index: 0,
+        kind: CellKind::Code,
+    };
+    tell_op(client, BOB, cell, Reply::NewCell { cell: 1 })
+}
+
+/// Ann, who put `x` at the end of a cell in which Bob had put `B`; then Bob puts `C` before it.
+fn ann_at_a_new_cell(alloc: Global) -> Result<Client, Fail> {
+    let mut ann = client(alloc, ANN, "")?;
+    tell_cell(&mut ann, alloc)?;
+    tell_of(&mut ann, alloc, 1, BOB, 1, insert(alloc, 0, "B")?)?;
+    change(&mut ann, 1, &insert(alloc, 1, "x")?)?;
+    tell_of(&mut ann, alloc, 1, BOB, 2, insert(alloc, 0, "C")?)?;
+    Ok(ann)
+}
+
+/// Bob deleted the cell.
+fn tell_deleted(client: &mut Client) -> Result<(), Fail> {
+    tell_op(client, BOB, Op::DeleteCell { cell: 1 }, Reply::Accepted)
+}
+
+/// Bob took the cell out of the bin.
+fn tell_restored(client: &mut Client) -> Result<(), Fail> {
+    let op = Op::RestoreCell {
+        cell: 1,
+        section: 1,
+        index: 0,
+    };
+    tell_op(client, BOB, op, Reply::NewCell { cell: 2 })
+}
+
+/// Whether a cell has this text of the client's own, and this revision.
+fn has(client: &Client, cell: u64, text: &str, rev: u64) -> bool {
+    match client.text(cell) {
+        Some(own) => own.as_str() == text && client.rev(cell) == Some(rev),
+        None => false,
+    }
+}
+
+/// Whether the client has no such cell.
+fn lacks(client: &Client, cell: u64) -> bool {
+    client.text(cell).is_none() && client.rev(cell).is_none() && client.pending(cell).is_none()
+}
+
+#[test]
+fn an_edit_of_a_new_cell_is_posted_at_its_revision(rt: HostRuntime) -> Result<(), Fail> {
+    let mut ann = ann_at_a_new_cell(rt.alloc())?;
+    assert!(rt; has(&ann, 1, "CBx", 2));
+    assert!(rt; take_base(&mut ann) == Some(1));
+    Ok(())
+}
+
+#[test]
+fn a_restored_cell_has_the_text_of_the_server(rt: HostRuntime) -> Result<(), Fail> {
+    let mut ann = ann_at_a_new_cell(rt.alloc())?;
+    tell_deleted(&mut ann)?;
+    assert!(rt; lacks(&ann, 1) && ann.outbox_len() == 1);
+    tell_restored(&mut ann)?;
+    assert!(rt; lacks(&ann, 1) && has(&ann, 2, "CB", 0));
+    Ok(())
+}
+
+/// The session refused that the cell is deleted.
+fn tell_refused(client: &mut Client) -> Result<(), Fail> {
+    let reply = Reply::Refused(Refusal::NotJoined);
+    tell_op(client, BOB, Op::DeleteCell { cell: 1 }, reply)
+}
+
+#[test]
+fn a_refused_change_is_not_made(rt: HostRuntime) -> Result<(), Fail> {
+    let mut ann = ann_at_a_new_cell(rt.alloc())?;
+    tell_refused(&mut ann)?;
+    assert!(rt; has(&ann, 1, "CBx", 2) && ann.cursor() == 5);
+    Ok(())
+}
+
+#[test]
+fn with_a_section_its_cells_go(rt: HostRuntime) -> Result<(), Fail> {
+    let mut ann = ann_at_a_new_cell(rt.alloc())?;
+    let op = Op::DeleteSection { section: 1 };
+    tell_op(&mut ann, BOB, op, Reply::Accepted)?;
+    assert!(rt; lacks(&ann, 1) && has(&ann, 0, "", 0));
+    Ok(())
+}
+
+/// Why a report of a cell isn't posted.
+fn report_error(client: &mut Client, cell: u64) -> Option<PostError> {
+    client.post_report(cell).err()
+}
+
+/// The revision that the message at the front reports.
+fn take_report(client: &mut Client) -> Option<u64> {
+    match client.take_front() {
+        Some(Op::Report { rev, .. }) => Some(rev),
+        _ => None,
+    }
+}
+
+#[test]
+fn a_report_tells_the_revision_at_the_last_delivery(rt: HostRuntime) -> Result<(), Fail> {
+    let mut ann = ann_who_typed(rt.alloc())?;
+    assert_eq!(rt; report_error(&mut ann, 9), Some(PostError::NoCell));
+    tell_put(&mut ann, rt.alloc(), BOB, 1, 0, "B")?;
+    assert_eq!(rt; report_error(&mut ann, 0), None);
+    assert!(rt; take_base(&mut ann) == Some(0) && take_report(&mut ann) == Some(1));
     Ok(())
 }

@@ -3,13 +3,14 @@ use Rattle.std.proofs.Common.{◌≡◌, ℕ, List, [], ◌∷◌, ◌++◌, Opt
 use Rattle.std.proofs.lemmas.List.{append-nil}
 use Rattle.ex_model.specs.declared.ran.Shown.{Shown}
 use Rattle.notebook.specs.declared.parts.Parts.{Parts}
-use Rattle.notebook.specs.declared.states.Lane.TheVariants.{Main}
-use Rattle.main_lane.specs.declared.lane.PlainJob.{PlainJob}
+use Rattle.notebook.specs.declared.states.Lane.{Lane}
+use Rattle.session_core.specs.declared.job.PlainJob.{PlainJob}
 use Rattle.session_ops.specs.declared.entry.Call.TheVariants.{Start, Respond}
 use Rattle.session_ops.specs.declared.entry.Reply.{Reply}
 use Rattle.session_ops.specs.declared.entry.Reply.TheVariants.{Started}
 use Rattle.session_ops.specs.declared.entry.Entry.{Entry}
-use Rattle.session_ops.specs.Work.{Running, running_eval}
+use Rattle.lanes.specs.declared.work.Running.{Running}
+use Rattle.lanes.specs.Changes.{running_eval}
 use Rattle.session_ops.specs.State.{respond_reply}
 use Rattle.session_core.specs.Session.{HasAnswered, HasStarted, IsAsBefore, history_of, state_of, entry_of}
 use Rattle.session_core.specs.declared.session.Session.{Session}
@@ -27,32 +28,32 @@ ends-here eval None = tt
 ends-here eval (Some r) = tt
 
 -- a start with its answer at the end
-abbrev both-entries : ℕ → PlainJob → Shown → Reply → List Entry
-both-entries by job shown answer = entry_of by (Start Main) (Started job.eval job.cell) ∷ entry_of by (Respond job.eval shown) answer ∷ []
+abbrev both-entries : Lane → ℕ → PlainJob → Shown → Reply → List Entry
+both-entries lane by job shown answer = entry_of by (Start lane) (Started job.eval job.cell) ∷ entry_of by (Respond job.eval shown) answer ∷ []
 
-followed-two : (r : Reply) (h : List Entry) (by : ℕ) (job : PlainJob) (shown : Shown) (answer : Reply) → IsFollowed r h → IsFollowed r (h ++ both-entries by job shown answer)
-followed-two r h by job shown answer f =
-    let start : Entry = entry_of by (Start Main) (Started job.eval job.cell) in
+followed-two : (lane : Lane) (r : Reply) (h : List Entry) (by : ℕ) (job : PlainJob) (shown : Shown) (answer : Reply) → IsFollowed r h → IsFollowed r (h ++ both-entries lane by job shown answer)
+followed-two lane r h by job shown answer f =
+    let start : Entry = entry_of by (Start lane) (Started job.eval job.cell) in
     let end : Entry = entry_of by (Respond job.eval shown) answer in
     subst (IsFollowed r) (append_assoc h (start ∷ []) (end ∷ [])) (followed-more r (h ++ start ∷ []) end (followed-more r h start f))
 
-answered-two : (h : List Entry) (by : ℕ) (job : PlainJob) (shown : Shown) (answer : Reply) → IsFollowed answer [] → AllAnswered h → AllAnswered (h ++ both-entries by job shown answer)
-answered-two [] by job shown answer f all = (refl, (f, tt))
-answered-two (x ∷ h) by job shown answer f all = (followed-two x.reply h by job shown answer all.0, answered-two h by job shown answer f all.1)
+answered-two : (lane : Lane) (h : List Entry) (by : ℕ) (job : PlainJob) (shown : Shown) (answer : Reply) → IsFollowed answer [] → AllAnswered h → AllAnswered (h ++ both-entries lane by job shown answer)
+answered-two lane [] by job shown answer f all = (refl, (f, tt))
+answered-two lane (x ∷ h) by job shown answer f all = (followed-two lane x.reply h by job shown answer all.0, answered-two lane h by job shown answer f all.1)
 
 -- a job was handed out and answered
-pub gone-by-one : (n0 : Parts) (by : ℕ) (a b c : Session) (job : PlainJob) → HasStarted n0 by a b job → HasResponded n0 by job.eval b c → HasGoneOn n0 by a c
-gone-by-one n0 by a b c job s r =
+pub gone-by-one : (n0 : Parts) (by : ℕ) (lane : Lane) (a b c : Session) (job : PlainJob) → HasStarted n0 by lane a b job → HasResponded n0 by job.eval b c → HasGoneOn n0 by a c
+gone-by-one n0 by lane a b c job s r =
     let shown : Shown = r.0 in
     let answer : Reply = r.1.0 in
     let done : HasAnswered n0 by (Respond job.eval shown) b c answer = r.1.1 in
-    let start : Entry = entry_of by (Start Main) (Started job.eval job.cell) in
+    let start : Entry = entry_of by (Start lane) (Started job.eval job.cell) in
     let end : Entry = entry_of by (Respond job.eval shown) answer in
-    let grown : history_of c ≡ history_of a ++ both-entries by job shown answer = done.history ∙ (ap (λ h. h ++ end ∷ []) s.answered.history ∙ append_assoc (history_of a) (start ∷ []) (end ∷ [])) in
+    let grown : history_of c ≡ history_of a ++ both-entries lane by job shown answer = done.history ∙ (ap (λ h. h ++ end ∷ []) s.answered.history ∙ append_assoc (history_of a) (start ∷ []) (end ∷ [])) in
     record {
-      more = both-entries by job shown answer;
+      more = both-entries lane by job shown answer;
       history = grown;
       evaluations = (refl, (tt, (refl, (tt, tt))));
-      answered = λ all. subst AllAnswered (sym grown) (answered-two (history_of a) by job shown answer (subst (λ x. IsFollowed x []) (sym done.right) (ends-here job.eval (running_eval (state_of n0 b).work job.eval))) all);
+      answered = λ all. subst AllAnswered (sym grown) (answered-two lane (history_of a) by job shown answer (subst (λ x. IsFollowed x []) (sym done.right) (ends-here job.eval (running_eval (state_of n0 b).work job.eval))) all);
       session = done.session;
     }

@@ -3,6 +3,7 @@ pub mod Asking
 pub mod Evaluating
 pub mod Fronts
 pub mod Leading
+pub mod Lined
 pub mod Looking
 pub mod Marks
 pub mod Once

@@ -1,40 +1,38 @@
 -- Lines that look at the history: recv, and the rounds of sync.
-use Rattle.std.proofs.Common.{◌≡◌, ◌≢◌, ℕ, ◌≤◌, ◌<◌, ◌+◌, ◌-◌, ◌==◌, zero, suc, Bool, true, false, if◌then◌else◌, List, [], ◌∷◌, ◌++◌, length, map, take, drop, Option, Some, None, codes, refl, sym, ap, subst, ◌∙◌, arith, append_assoc}
+use Rattle.std.proofs.Common.{◌≡◌, ◌≢◌, ℕ, ◌≤◌, ◌+◌, ◌-◌, zero, suc, Bool, true, false, if◌then◌else◌, List, [], ◌∷◌, ◌++◌, length, map, take, drop, Option, Some, refl, sym, ap, subst, ◌∙◌, arith, append_assoc}
 use Rattle.std.specs.Prelude.{slice_set}
 use Rattle.std.proofs.lemmas.List.{append-nil, length-append}
-use Rattle.std.proofs.lemmas.Bool.Decides.{nat_tests}
-use Rattle.notebook.specs.declared.parts.Parts.{Parts}
 use Rattle.session_ops.specs.declared.entry.Entry.{Entry}
 use Rattle.std.specs.List.{AllByRecursion}
-use Rattle.session_ops.specs.State.{entries_by, Legal}
+use Rattle.session_ops.specs.State.{entries_by}
 use Rattle.session_core.specs.Session.{IsSession, history_of}
-use Rattle.client_sync.specs.Client.{Client as Holder, received, client_of, put_client}
+use Rattle.client_sync.specs.Client.{Client as Holder, received, put_client}
 use Rattle.client_sync.specs.Stands.{Mirrors}
 use Rattle.client_sync.specs.declared.client.Client.{Client}
-use Rattle.world.specs.World.{World, with_client}
+use Rattle.world.specs.World.{World}
 use Rattle.world.specs.Claims.{IsWhole, number_of}
 use Rattle.world.specs.Waiting.{IsHonest, AreHonest}
 use Rattle.world.proofs.Clients.{put-numbers}
 use Rattle.world.proofs.Standing.{put-whole}
-use Rattle.world.proofs.Honest.{put-honest}
+use Rattle.world.proofs.Honest.{put-honest, honest-joined}
 use Rattle.transcript.specs.Texts.{as_text}
 use Rattle.script.specs.declared.line.ScriptLine.TheVariants.{Recv, Sync}
 use Rattle.script.specs.declared.line.Count.{Count}
 use Rattle.driver.specs.Lines.{received_words, sync_words}
 use Rattle.driver.specs.Turns.{Turn, Looked, turns_from, AreMarks}
-use Rattle.driver.specs.Player.{Game, Stage, Marked, or_none, looks, say, with_clients, name_of, how_many, unseen, receive_some, receive_all, send_each, round, rounds, all_sent, play_line}
-use Rattle.driver.specs.Headline.{AllOfRun, AllAnswered, AllTaken, call_of}
-use Rattle.driver.specs.Clients.{AreMirrored, AreApart, IsAt, HasReceived}
-use Rattle.driver.specs.Standing.{Stands, Leads, HasDone, HasPlayed, HasRound, HasReceivedSome, world_of, entries_of, turns_of}
+use Rattle.driver.specs.Player.{Game, Stage, Marked, or_none, looks, say, with_clients, name_of, how_many, unseen, receive_some, receive_all, send_each, round, rounds, all_sent}
+use Rattle.driver.specs.Headline.{AllOfRun, AllAnswered, AllFair, call_of}
+use Rattle.driver.specs.Clients.{AreMirrored, AreApart, IsAt, HasReceived, IsLawful}
+use Rattle.driver.specs.Standing.{Stands, HasDone, HasPlayed, HasRound, HasReceivedSome, world_of, entries_of, turns_of}
 use Rattle.driver.specs.declared.player.Player.{Player}
 use Rattle.driver.proofs.Marks.{marks-push, turns-looked}
 use Rattle.driver.proofs.Still.{own-honest}
 use Rattle.driver.proofs.Receiving.{many-honest, received-number, each-honest, each-whole, each-number}
 
 -- the player after a look, with other clients
-pub look-stands : (g : Game) (p p' : Player) (s t : Stage) → Stands g p s → p'.session ≡ p.session → p'.marks ≡ p.marks ++ length (entries_of p) ∷ [] → t.turns ≡ [] → t.asked ≡ s.asked → IsWhole (world_of g.opening (entries_of p) t.clients) → AreHonest (world_of g.opening (entries_of p) t.clients)
+pub look-stands : (g : Game) (p p' : Player) (s t : Stage) → Stands g p s → p'.session ≡ p.session → p'.marks ≡ p.marks ++ length (entries_of p) ∷ [] → t.turns ≡ [] → t.asked ≡ s.asked → t.sent ≡ s.sent → IsWhole (world_of g.opening (entries_of p) t.clients) → AreHonest (world_of g.opening (entries_of p) t.clients)
     → AreApart (map number_of t.clients) → AreMirrored g.opening p'.clients.items t.clients → Stands g p' t
-look-stands g p p' s t st es em used asked whole honest apart mir =
+look-stands g p p' s t st es em used asked same_sent whole honest apart mir =
     let eh : entries_of p' ≡ entries_of p = ap history_of es in
     record {
       session = subst (IsSession g.opening) (sym es) st.session;
@@ -42,7 +40,7 @@ look-stands g p p' s t st es em used asked whole honest apart mir =
       marks = subst (λ ms. AreMarks 0 ms (length (entries_of p'))) (sym em) (subst (λ x. AreMarks 0 (p.marks ++ length (entries_of p) ∷ []) (length x)) (sym eh) (marks-push 0 p.marks (length (entries_of p)) (omega arith) st.marks));
       run = subst (AllOfRun 0) (sym eh) st.run;
       answered = subst AllAnswered (sym eh) st.answered;
-      taken = subst AllTaken (sym eh) st.taken;
+      fair = subst (AllFair g.opening) (sym same_sent) st.fair;
       asked = asked ∙ (st.asked ∙ ap (λ x. map call_of (entries_by x 0)) (sym eh));
       whole = subst (λ x. IsWhole (world_of g.opening x t.clients)) (sym eh) whole;
       honest = subst (λ x. AreHonest (world_of g.opening x t.clients)) (sym eh) honest;
@@ -53,6 +51,10 @@ look-stands g p p' s t st es em used asked whole honest apart mir =
 pub look-turns : (p p' : Player) → p'.session ≡ p.session → p'.marks ≡ p.marks ++ length (entries_of p) ∷ [] → turns_of p' ≡ turns_of p ++ Looked (entries_of p) ∷ []
 look-turns p p' es em = ap (λ ms. turns_from [] (entries_of p') ms) em ∙ (ap (λ x. turns_from [] x (p.marks ++ length (entries_of p) ∷ [])) (ap history_of es) ∙ turns-looked (entries_of p) p.marks)
 
+-- the history behind a stage is legal
+pub stage-lawful : (g : Game) (p : Player) (s : Stage) → Stands g p s → IsLawful g.opening (entries_of p)
+stage-lawful g p s st = record { notebook = st.whole.notebook; legal = st.whole.legal }
+
 -- recv
 pub recv-played : (g : Game) (p p' : Player) (s : Stage) (n : ℕ) (count : Count) (at : ℕ) (x' : Client) (name before out : List ℕ) → name ≡ name_of g n → Stands g p s → (is : IsAt g.opening p.clients.items s.clients n at) → p'.session ≡ p.session → p'.marks ≡ p.marks ++ length (entries_of p) ∷ []
     → p'.clients.items ≡ slice_set p.clients.items at x' → HasReceivedSome g count (entries_of p) is.own x' name before out → HasPlayed g (Recv n count) p p' s before out
@@ -61,7 +63,7 @@ recv-played g p p' s n count at x' name before out nm st is es em ec rec =
     let w : World = world_of g.opening h s.clients in
     let c : Holder = receive_some g count h is.own in
     let own : IsHonest g.opening h is.own = own-honest g p s n is.own st is.there in
-    let now : IsHonest g.opening h c = many-honest g.opening h is.own (how_many count (length (unseen is.own h))) st.whole.legal own in
+    let now : IsHonest g.opening h c = many-honest g.opening h is.own (how_many count (length (unseen is.own h))) (stage-lawful g p s st) own in
     let number : c.number ≡ n = received-number g.opening is.own (take (how_many count (length (unseen is.own h))) (unseen is.own h)) ∙ is.number in
     let t : Stage = say (received_words (name_of g n) (length c.seen) ∷ []) (with_clients (put_client c s.clients) (record s { turns = [] })) in
     record {
@@ -70,7 +72,7 @@ recv-played g p p' s n count at x' name before out nm st is es em ec rec =
       grown = look-turns p p' es em;
       acts = λ rest. rw is.there refl;
       stands =
-          look-stands g p p' s t st es em refl refl (put-whole w c st.whole (now.later, now.behind)) (put-honest w c st.honest now) (subst AreApart (sym (put-numbers c s.clients)) st.apart)
+          look-stands g p p' s t st es em refl refl refl (put-whole w c st.whole (honest-joined g.opening h c now) (now.later, now.behind)) (put-honest w c st.honest now) (subst AreApart (sym (put-numbers c s.clients)) st.apart)
           (subst (λ xs. AreMirrored g.opening xs (put_client c s.clients)) (sym ec) (is.replaced x' c number rec.mirrors));
       piece = as_text (received_words (name_of g n) (length c.seen) ∷ []);
       printed = rec.printed ∙ ap (λ z. before ++ as_text (received_words z (length c.seen) ∷ [])) nm;
@@ -114,7 +116,7 @@ round-played g p a c s ns at x y en d ea es em mir =
       grown = look-turns a c es marks ∙ (ap (λ ts. ts ++ Looked h ∷ []) d.grown ∙ append_assoc (turns_of p) d.more (Looked h ∷ []));
       acts = λ rest. round-acts g s ns d.stage (d.more ++ Looked h ∷ []) d.more rest h (entries_of c) en eh (append_assoc d.more (Looked h ∷ []) rest) (d.acts (Looked h ∷ rest));
       at_is = ea ∙ ap length (sym eh);
-      stands = look-stands g a c d.stage t d.stands es marks refl refl (each-whole g h d.stage.clients d.stands.whole d.stands.honest) (each-honest g h d.stage.clients d.stands.whole.legal d.stands.honest) (subst AreApart (sym (each-number g h d.stage.clients)) d.stands.apart) mir;
+      stands = look-stands g a c d.stage t d.stands es marks refl refl refl (each-whole g h d.stage.clients d.stands.whole d.stands.honest) (each-honest g h d.stage.clients (record { notebook = d.stands.whole.notebook; legal = d.stands.whole.legal }) d.stands.honest) (subst AreApart (sym (each-number g h d.stage.clients)) d.stands.apart) mir;
       piece = d.piece;
       printed = d.printed;
       said = d.said;
@@ -200,7 +202,7 @@ sync-played g a b c s at x y z out i r sent printed =
           ap (λ k. rounds k g (record s { turns = all ++ rest })) (sym d.1 ∙ fuel)
           ∙ (ap (λ ts. rounds (suc d.0 + i.count) g (record s { turns = ts })) (append_assoc i.more r.more rest)
           ∙ (i.acts (r.more ++ rest) (suc d.0) ∙ (ap (λ o. after_round d.0 g o) (r.acts rest) ∙ ap (λ b. if b then Some (say words (record r.stage { turns = rest })) else rounds d.0 g (record r.stage { turns = rest })) sent)));
-      stands = record { session = r.stands.session; used = refl; marks = r.stands.marks; run = r.stands.run; answered = r.stands.answered; taken = r.stands.taken; asked = r.stands.asked; whole = r.stands.whole; honest = r.stands.honest; apart = r.stands.apart; mirrored = r.stands.mirrored };
+      stands = record { session = r.stands.session; used = refl; marks = r.stands.marks; run = r.stands.run; answered = r.stands.answered; fair = r.stands.fair; asked = r.stands.asked; whole = r.stands.whole; honest = r.stands.honest; apart = r.stands.apart; mirrored = r.stands.mirrored };
       piece = (i.piece ++ r.piece) ++ as_text words;
       printed = printed ∙ (ap (λ k. z ++ as_text (sync_words k ∷ [])) r.at_is ∙ (ap (λ w. w ++ as_text words) (r.printed ∙ (ap (λ w. w ++ r.piece) i.printed ∙ append_assoc x i.piece r.piece)) ∙ append_assoc x (i.piece ++ r.piece) (as_text words)));
       said = ap (λ w. w ++ as_text words) (r.said ∙ (ap (λ w. w ++ r.piece) i.said ∙ append_assoc s.said i.piece r.piece)) ∙ append_assoc s.said (i.piece ++ r.piece) (as_text words);
@@ -212,11 +214,11 @@ sent-known g p s xs b st e f = sym (f s.clients (subst (λ ys. AreMirrored g.ope
 
 -- the same, as it is made in memory
 pub round-made : (g : Game) (p a b c : Player) (s : Stage) (ns : List ℕ) (at : ℕ) (h : List Entry) (xs ys : List Client) (x y : List ℕ) → ns ≡ map number_of s.clients → (d : HasDone g (send_each g ns) p a s x y) → at ≡ length (entries_of a) → b ≡ record a { marks = a.marks ++ at ∷ [] } → h ≡ history_of b.session → xs ≡ b.clients.items
-    → c.session ≡ b.session → c.marks ≡ b.marks → c.clients.items ≡ ys → ((cs : List Holder) → Legal g.opening h → AllByRecursion (IsHonest g.opening h) cs → AreMirrored g.opening xs cs → AreMirrored g.opening ys (receive_all g h cs)) → HasRound g p c s at x y
+    → c.session ≡ b.session → c.marks ≡ b.marks → c.clients.items ≡ ys → ((cs : List Holder) → IsLawful g.opening h → AllByRecursion (IsHonest g.opening h) cs → AreMirrored g.opening xs cs → AreMirrored g.opening ys (receive_all g h cs)) → HasRound g p c s at x y
 round-made g p a b c s ns at h xs ys x y en d ea eb eh ex es em ec f =
     let same : h ≡ entries_of a = eh ∙ ap (λ q. history_of q.session) eb in
     let clients : xs ≡ a.clients.items = ex ∙ ap (λ q. q.clients.items) eb in
     let cs : List Holder = d.stage.clients in
     let got : AreMirrored g.opening ys (receive_all g h cs) =
-    f cs (subst (Legal g.opening) (sym same) d.stands.whole.legal) (subst (λ k. AllByRecursion (IsHonest g.opening k) cs) (sym same) d.stands.honest) (subst (λ zs. AreMirrored g.opening zs cs) (sym clients) d.stands.mirrored) in
+    f cs (subst (IsLawful g.opening) (sym same) (record { notebook = d.stands.whole.notebook; legal = d.stands.whole.legal })) (subst (λ k. AllByRecursion (IsHonest g.opening k) cs) (sym same) d.stands.honest) (subst (λ zs. AreMirrored g.opening zs cs) (sym clients) d.stands.mirrored) in
     round-played g p a c s ns at x y en d ea (es ∙ ap (λ q. q.session) eb) (em ∙ ap (λ q. q.marks) eb) (subst (λ zs. AreMirrored g.opening zs (receive_all g (entries_of a) cs)) (sym ec) (subst (λ k. AreMirrored g.opening ys (receive_all g k cs)) same got))

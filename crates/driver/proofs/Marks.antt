@@ -1,20 +1,23 @@
 -- Marks, entries under 0 and answered evaluations of a history that grows.
-use Rattle.std.proofs.Common.{◌≡◌, ℕ, ◌≤◌, ◌<◌, ◌+◌, ◌==◌, Bool, true, false, if◌then◌else◌, List, [], ◌∷◌, ◌++◌, length, map, refl, sym, ap, subst, ◌∙◌, arith, inl, inr}
+use Rattle.std.proofs.Common.{◌≡◌, ℕ, ◌≤◌, ◌==◌, Bool, true, false, if◌then◌else◌, List, [], ◌∷◌, ◌++◌, length, map, Option, Some, None, refl, sym, ap, subst, ◌∙◌, arith, inl, inr}
 use Rattle.std.proofs.lemmas.Bool.Decides.{nat_tests}
 use Rattle.std.proofs.lemmas.List.{length-append, append-nil, append_assoc, map-append}
 use Rattle.delta.specs.declared.Step.{Step}
 use Rattle.delta.specs.declared.Step.TheVariants.{Retain, Insert, Delete}
 use Rattle.session_ops.specs.declared.entry.Op.{Op}
-use Rattle.session_ops.specs.declared.entry.Op.TheVariants.{Join as Joins, Delta, Queue}
-use Rattle.session_ops.specs.declared.entry.Call.{Call}
-use Rattle.session_ops.specs.declared.entry.Call.TheVariants.{Client as ByClient, Start, Respond}
+use Rattle.session_ops.specs.declared.entry.Op.TheVariants.{Join as Joins, Leave, SetName, InsertSection, SetSectionName, DeleteSection, MoveSection, SetParent, InsertCell, DeleteCell, RestoreCell, MoveCell, Delta, Report, Queue, Cancel}
+use Rattle.session_ops.specs.declared.entry.Call.TheVariants.{Client as ByClient}
 use Rattle.session_ops.specs.declared.entry.Reply.{Reply}
-use Rattle.session_ops.specs.declared.entry.Reply.TheVariants.{Accepted, Applied, Started, Stored, Late, Refused}
+use Rattle.session_ops.specs.declared.entry.Reply.TheVariants.{Accepted, Applied, NewCell, NewSection, Started, Stored, Late, Refused}
 use Rattle.session_ops.specs.declared.entry.Entry.{Entry}
 use Rattle.session_ops.specs.State.{entries_by}
-use Rattle.session_ops.specs.Same.{same_numbers, same_step, same_steps, same_op, same_call}
-use Rattle.driver.specs.Turns.{Turn, Made, Looked, turns_from, AreMarks}
-use Rattle.driver.specs.Headline.{AllOfRun, AllAnswered, IsFollowed, IsAnsweredNext, AllTaken, IsTaken, IsEvaluation, call_of}
+use Rattle.notebook.specs.declared.change.CellKind.{CellKind}
+use Rattle.notebook.specs.declared.change.CellKind.TheVariants.{Code, Markdown}
+use Rattle.notebook.specs.declared.parts.Parts.{Parts}
+use Rattle.session_ops.specs.Same.{same_numbers, same_step, same_steps, same_option, same_kind, same_op, same_call}
+use Rattle.driver.specs.Player.{Sent}
+use Rattle.driver.specs.Turns.{Made, Looked, turns_from, AreMarks}
+use Rattle.driver.specs.Headline.{AllOfRun, AllAnswered, IsFollowed, IsAnsweredNext, AllFair, IsFair, call_of}
 use Rattle.driver.specs.Settling.{AreEvaluationsBy}
 use Rattle.driver.proofs.TurnLaws.{AllUpTo, entry-more, mark-more}
 
@@ -89,6 +92,8 @@ pub followed-more : (answer : Reply) (es : List Entry) (e : Entry) → IsFollowe
 followed-more (Started eval cell) es e h = next-more eval es e h
 followed-more Accepted es e h = h
 followed-more (Applied rev x) es e h = h
+followed-more (NewCell cell) es e h = h
+followed-more (NewSection section) es e h = h
 followed-more (Stored eval) es e h = h
 followed-more (Late eval) es e h = h
 followed-more (Refused why) es e h = h
@@ -97,20 +102,10 @@ pub answered-more : (h : List Entry) (e : Entry) → AllAnswered h → IsFollowe
 answered-more [] e a f = (f, tt)
 answered-more (x ∷ h) e a f = (followed-more x.reply h e a.0, answered-more h e a.1 f)
 
--- deltas that were taken
-pub taken-push : (h : List Entry) (e : Entry) → AllTaken h → IsTaken e.call e.reply → AllTaken (h ++ e ∷ [])
-taken-push [] e a t = (t, tt)
-taken-push (x ∷ h) e a t = (a.0, taken-push h e a.1 t)
-
-evaluation-taken : (call : Call) (answer : Reply) → IsEvaluation call → IsTaken call answer
-evaluation-taken (ByClient n op) answer h = absurd h
-evaluation-taken (Start lane) answer h = tt
-evaluation-taken (Respond eval shown) answer h = tt
-
-pub taken-evaluated : (h es : List Entry) → AllTaken h → AreEvaluationsBy 1 es → AllTaken (h ++ es)
-taken-evaluated [] [] a ev = tt
-taken-evaluated [] (e ∷ es) a ev = (evaluation-taken e.call e.reply ev.1.0, taken-evaluated [] es tt ev.1.1)
-taken-evaluated (x ∷ h) es a ev = (a.0, taken-evaluated h es a.1 ev)
+-- one more message that was answered fairly
+pub fair-push : (n0 : Parts) (ms : List Sent) (m : Sent) → AllFair n0 ms → IsFair n0 m → AllFair n0 (ms ++ m ∷ [])
+fair-push n0 [] m a f = (f, tt)
+fair-push n0 (x ∷ ms) m a f = (a.0, fair-push n0 ms m a.1 f)
 
 -- a call is the same as itself
 equal-self : (n : ℕ) → (n == n) ≡ true
@@ -129,10 +124,31 @@ same-steps : (d : List Step) → same_steps d d ≡ true
 same-steps [] = refl
 same-steps (s ∷ d) = rw (same-step s) (same-steps d)
 
+same-option : (o : Option ℕ) → same_option o o ≡ true
+same-option None = refl
+same-option (Some n) = equal-self n
+
+same-kind : (k : CellKind) → same_kind k k ≡ true
+same-kind Code = refl
+same-kind Markdown = refl
+
 same-op : (op : Op) → same_op op op ≡ true
 same-op Joins = refl
+same-op Leave = refl
+same-op (SetName name) = same-numbers name
+same-op (InsertSection index name) = rw (equal-self index) (same-numbers name)
+same-op (SetSectionName section name) = rw (equal-self section) (same-numbers name)
+same-op (DeleteSection section) = equal-self section
+same-op (MoveSection section index) = rw (equal-self section) (equal-self index)
+same-op (SetParent section parent) = rw (equal-self section) (same-option parent)
+same-op (InsertCell section index kind) = rw (equal-self section, equal-self index) (same-kind kind)
+same-op (DeleteCell cell) = equal-self cell
+same-op (RestoreCell cell section index) = rw (equal-self cell, equal-self section) (equal-self index)
+same-op (MoveCell cell section index) = rw (equal-self cell, equal-self section) (equal-self index)
 same-op (Delta cell base d) = rw (equal-self cell, equal-self base) (same-steps d)
+same-op (Report cell rev) = rw (equal-self cell) (equal-self rev)
 same-op (Queue cell) = equal-self cell
+same-op (Cancel cell) = equal-self cell
 
 pub same-call : (n : ℕ) (op : Op) → same_call (ByClient n op) (ByClient n op) ≡ true
 same-call n op = rw (equal-self n) (same-op op)

@@ -1,12 +1,11 @@
 -- The clients in memory, one by one.
-use Rattle.std.proofs.Common.{◌≡◌, ℕ, ◌<◌, ◌+◌, ◌==◌, zero, suc, Bool, true, false, if◌then◌else◌, List, [], ◌∷◌, ◌++◌, length, map, Option, Some, None, refl, sym, ap, subst, ◌∙◌, arith}
-use Rattle.std.specs.Prelude.{slice_set}
+use Rattle.std.proofs.Common.{◌≡◌, ℕ, ◌<◌, ◌+◌, ◌==◌, suc, Bool, true, false, if◌then◌else◌, List, [], ◌∷◌, ◌++◌, length, map, Option, Some, None, refl, sym, ap, subst, ◌∙◌, arith}
+use Rattle.std.specs.Prelude.{remove}
 use Rattle.std.proofs.lemmas.Bool.{eqb-true, eq-eqb}
-use Rattle.std.proofs.lemmas.Bool.Decides.{nat_tests}
 use Rattle.std.proofs.lemmas.List.{length-map}
 use Rattle.notebook.specs.declared.parts.Parts.{Parts}
-use Rattle.session_ops.specs.Work.{is_in}
-use Rattle.client_sync.specs.Client.{Client as Holder, client_of, put_client}
+use Rattle.session_ops.specs.Numbers.{is_in}
+use Rattle.client_sync.specs.Client.{Client as Holder, client_of, put_client, without_client}
 use Rattle.client_sync.specs.Stands.{Mirrors, number_in}
 use Rattle.client_sync.specs.declared.client.Client.{Client}
 use Rattle.world.specs.Claims.{number_of}
@@ -32,6 +31,14 @@ absent-put n c (d ∷ cs) e a =
     refl
     a
 
+absent-out : (n : ℕ) (cs : List Holder) → is_in n (map number_of cs) ≡ false → without_client n cs ≡ cs
+absent-out n [] a = refl
+absent-out n (d ∷ cs) a =
+    elim (d.number == n)
+    as (λ b. (if b then true else is_in n (map number_of cs)) ≡ false → (if b then without_client n cs else d ∷ without_client n cs) ≡ d ∷ cs)
+    [ true ↦ λ k. absurd (cc k) | false ↦ λ k. ap (λ ds. d ∷ ds) (absent-out n cs k) ]
+    a
+
 -- the first client has the number
 at-first : (n0 : Parts) (x : Client) (xs : List Client) (c : Holder) (cs : List Holder) (n : ℕ) → Mirrors n0 x c → AreMirrored n0 xs cs → is_in c.number (map number_of cs) ≡ false → c.number ≡ n → IsAt n0 (x ∷ xs) (c ∷ cs) n 0
 at-first n0 x xs c cs n m all a e =
@@ -48,6 +55,10 @@ at-first n0 x xs c cs n m all a e =
             subst (Mirrors n0 y) (sym (ap (λ b. if b then d else c) here)) h,
             subst (AreMirrored n0 xs) (sym rest) all,
           );
+      removed =
+          let here : (c.number == n) ≡ true = eq-eqb c.number n e in
+          let rest : without_client n cs ≡ cs = absent-out n cs (subst (λ k. is_in k (map number_of cs) ≡ false) e a) in
+          subst (AreMirrored n0 xs) (sym (ap (λ b. if b then without_client n cs else c ∷ without_client n cs) here ∙ rest)) all;
     }
 
 -- another has it, after the first
@@ -63,6 +74,7 @@ at-later n0 x xs c cs n at m e is =
       replaced = λ y d number h.
           let other : (c.number == d.number) ≡ false = ap (λ k. c.number == k) number ∙ e in
           (subst (Mirrors n0 x) (sym (ap (λ b. if b then d else c) other)) m, is.replaced y d number h);
+      removed = subst (AreMirrored n0 (x ∷ remove xs at)) (sym (ap (λ b. if b then without_client n cs else c ∷ without_client n cs) e)) (m, is.removed);
     }
 
 -- the numbers in memory
@@ -104,3 +116,37 @@ place-within n (m ∷ ms) at e = within-of m ms (m == n) (place_in n ms) at (pla
 -- a place is within the clients
 pub within : (n : ℕ) (xs ys : List Client) (len at : ℕ) (o : Option ℕ) → o ≡ place_in n (map number_in xs) → o ≡ Some at → xs ≡ ys → length xs ≡ len → at < len
 within n xs ys len at o e is same size = let r : at < length (map number_in xs) = place-within n (map number_in xs) at (sym is ∙ e) in let m : length (map number_in xs) ≡ length xs = length-map xs number_in in omega (arith, r, m, size)
+
+-- without the client of a number
+absent-here : (n : ℕ) (cs : List Holder) → client_of n cs ≡ None → is_in n (map number_of cs) ≡ false
+absent-here n [] e = refl
+absent-here n (d ∷ cs) e =
+    elim (d.number == n)
+    as (λ b. (if b then Some d else client_of n cs) ≡ None → (if b then true else is_in n (map number_of cs)) ≡ false)
+    [ true ↦ λ k. absurd (cc k) | false ↦ λ k. absent-here n cs k ]
+    e
+
+pub mirrored-without : (n0 : Parts) (xs : List Client) (cs : List Holder) (n : ℕ) → AreMirrored n0 xs cs → client_of n cs ≡ None → AreMirrored n0 xs (without_client n cs)
+mirrored-without n0 xs cs n m e = subst (AreMirrored n0 xs) (sym (absent-out n cs (absent-here n cs e))) m
+
+-- who is gone leaves the others apart
+out-stays : (m n : ℕ) (cs : List Holder) → is_in m (map number_of cs) ≡ false → is_in m (map number_of (without_client n cs)) ≡ false
+out-stays m n [] e = refl
+out-stays m n (d ∷ cs) e =
+    elim (d.number == m)
+    as (λ b. (d.number == m) ≡ b → (if b then true else is_in m (map number_of cs)) ≡ false → is_in m (map number_of (if d.number == n then without_client n cs else d ∷ without_client n cs)) ≡ false) [
+      | true ↦ λ t k. absurd (cc k)
+      | false ↦ λ t k.
+          elim (d.number == n)
+          as (λ b. is_in m (map number_of (if b then without_client n cs else d ∷ without_client n cs)) ≡ false)
+          [ true ↦ out-stays m n cs k | false ↦ ap (λ b. if b then true else is_in m (map number_of (without_client n cs))) t ∙ out-stays m n cs k ]
+    ]
+    refl
+    e
+
+pub apart-without : (n : ℕ) (cs : List Holder) → AreApart (map number_of cs) → AreApart (map number_of (without_client n cs))
+apart-without n [] a = tt
+apart-without n (d ∷ cs) a =
+    elim (d.number == n)
+    as (λ b. AreApart (map number_of (if b then without_client n cs else d ∷ without_client n cs)))
+    [ true ↦ apart-without n cs a.1 | false ↦ (out-stays d.number n cs a.0, apart-without n cs a.1) ]

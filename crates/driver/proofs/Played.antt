@@ -4,8 +4,6 @@ use Rattle.std.specs.List.{AllByRecursion}
 use Rattle.std.proofs.lemmas.List.{append-nil, drop_more, drop_all}
 use Rattle.std.proofs.lemmas.Grind.{flat_map-append}
 use Rattle.notebook.specs.declared.parts.Parts.{Parts}
-use Rattle.notebook.specs.Book.{cells}
-use Rattle.notebook.specs.Rules.{AreDistinct, cell_number}
 use Rattle.session_ops.specs.declared.entry.Entry.{Entry}
 use Rattle.session_ops.specs.State.{State, state, revision, entries_by}
 use Rattle.session_ops.specs.Snapshot.{IsSnapshot}
@@ -21,7 +19,7 @@ use Rattle.book_outside.specs.Outside.{AppendsAll}
 use Rattle.driver.specs.Turns.{Looked, turns_from, AreMarks}
 use Rattle.driver.specs.Player.{Game, Stage, or_none, say, play, play_line, settled, states_at}
 use Rattle.driver.specs.Transcript.{game, begun, stage_after, finished, ending, transcript, end_lines}
-use Rattle.driver.specs.Headline.{AllOfRun, AllAnswered, AllTaken, AllClients, IsHistory, IsPlayed, call_of}
+use Rattle.driver.specs.Headline.{AllOfRun, AllAnswered, AllClients, IsHistory, IsPlayed, call_of}
 use Rattle.driver.specs.Clients.{AreMirrored}
 use Rattle.driver.specs.Standing.{Stands, HasDone, HasPlayed, entries_of, turns_of}
 use Rattle.driver.specs.Ends.{IsFresh, HasEnded, EndsWritten}
@@ -86,9 +84,9 @@ first-stands n0 names p fr =
       marks = subst (λ ms. AreMarks 0 ms (length (entries_of p))) (sym fr.marks) tt;
       run = subst (AllOfRun 0) (sym fr.history) tt;
       answered = subst AllAnswered (sym fr.history) tt;
-      taken = subst AllTaken (sym fr.history) tt;
+      fair = tt;
       asked = ap (λ h. map call_of (entries_by h 0)) (sym fr.history);
-      whole = record { legal = fr.session.legal; joined = ap (λ h. (state n0 h).joined) fr.history; behind = tt };
+      whole = record { legal = fr.session.legal; notebook = fr.session.opening; joined = tt; behind = tt };
       honest = tt;
       apart = tt;
       mirrored = subst (λ xs. AreMirrored n0 xs []) (sym fr.clients) tt;
@@ -96,9 +94,6 @@ first-stands n0 names p fr =
 
 no-turns : (n0 : Parts) (p : Player) → IsFresh n0 p → turns_of p ≡ []
 no-turns n0 p fr = ap (λ h. turns_from [] h p.marks) fr.history ∙ ap (λ ms. turns_from [] [] ms) fr.marks
-
-first-distinct : (n0 : Parts) (p : Player) → IsFresh n0 p → AreDistinct (map cell_number (cells n0))
-first-distinct n0 p fr = subst (λ b. AreDistinct (map cell_number (cells b))) (fr.session.book ∙ ap (λ h. (state n0 h).book) fr.history) fr.session.numbers
 
 -- the end of the play
 pub all-played : (n0 : Parts) (content : Content) (p0 p1 p2 : Player) (w0 w1 w2 : Option (List ℕ)) → IsFresh n0 p0 → HavePlayed (game n0 content) content.lines [] p0 p1 (begun [] []) w0 w1 → EndsWritten n0 p1 p2 w1 w2 → (text : List ℕ) × (IsPlayed n0 [] content 0 (entries_of p2) p2.marks text × AppendsAll w0 text w2)
@@ -113,7 +108,7 @@ all-played n0 content p0 p1 p2 w0 w1 w2 fr x ends =
     let grown : turns_of p1 ≡ l.more = l.grown ∙ ap (λ ts. ts ++ l.more) (no-turns n0 p0 fr) in
     let turns : turns_of p2 ≡ l.more ++ Looked h ∷ [] = looked-turns g p1 p2 l.stage l.stands e.settled.gone e.marks ∙ ap (λ ts. ts ++ Looked h ∷ []) grown in
     let lines : stage_after n0 content content.lines h ms ≡ Some (record l.stage { turns = Looked h ∷ [] })
-    = ap (λ ts. let k : Stage = record { turns = ts; clients = []; asked = []; said = [] } in play g content.lines k) turns ∙ l.acts (Looked h ∷ []) in
+    = ap (λ ts. let k : Stage = record { turns = ts; clients = []; asked = []; sent = []; said = [] } in play g content.lines k) turns ∙ l.acts (Looked h ∷ []) in
     let idle : settled g (record l.stage { turns = Looked h ∷ [] }) ≡ Some last = ap (λ b. if b then Some last else None) e.settled.idle in
     let done : finished n0 content h ms ≡ Some last = ap (λ o. or_none o (settled g)) lines ∙ idle in
     let text : List ℕ = l.stage.said ++ as_text (end_lines (state n0 h)) in
@@ -126,9 +121,9 @@ all-played n0 content p0 p1 p2 w0 w1 w2 fr x ends =
           stage = last;
           played = done;
           calls = end.asked;
-          taken = end.taken;
+          fair = end.fair;
           clients = clients-of n0 h l.stage.clients end.honest;
-          once = all-grown n0 h (first-distinct n0 p0 fr);
+          once = all-grown n0 h fr.session.opening end.session.legal;
           evaluated = fronts-show n0 h end.session.legal;
         },
         subst (λ z. AppendsAll w0 (z ++ as_text (end_lines (state n0 h))) w2) (l.printed ∙ sym l.said) (written-more w0 w1 w2 x.text (as_text (end_lines (state n0 h))) x.written ends.written),
@@ -139,7 +134,7 @@ all-played n0 content p0 p1 p2 w0 w1 w2 fr x ends =
 pub end-printed : (n0 : Parts) (p : Player) (x : Snapshot) (a b c : List ℕ) → IsSnapshot (state n0 (entries_of p)) (length (entries_of p)) x → a ≡ as_text (codes "end" ∷ []) → b ≡ a ++ as_text (book_lines (rev_in x.revs) x.book) → c ≡ b ++ as_text (states_at (state n0 (entries_of p))) → c ≡ as_text (end_lines (state n0 (entries_of p)))
 end-printed n0 p x a b c is ea eb ec =
     let st : State = state n0 (entries_of p) in
-    let lines : book_lines (rev_in x.revs) x.book ≡ book_lines (revision st) st.book = ap (book_lines (rev_in x.revs)) is.book ∙ listed-lines st st.book x.revs is.revs refl in
+    let lines : book_lines (rev_in x.revs) x.book ≡ book_lines (revision st) st.book = ap (book_lines (rev_in x.revs)) is.book ∙ listed-lines st st.book x.revs is.revs (λ id e. e) in
     ec ∙ (ap (λ y. y ++ as_text (states_at st)) (eb ∙ (ap (λ y. y ++ as_text (book_lines (rev_in x.revs) x.book)) ea ∙ ap (λ ls. as_text (codes "end" ∷ []) ++ as_text ls) lines))
     ∙ (append_assoc (as_text (codes "end" ∷ [])) (as_text (book_lines (revision st) st.book)) (as_text (states_at st)) ∙ ap (λ y. as_text (codes "end" ∷ []) ++ y) (sym (flat_map-append ended_line (book_lines (revision st) st.book) (states_at st)))))
 

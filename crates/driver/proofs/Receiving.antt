@@ -1,24 +1,22 @@
 -- Clients that receive some of the history.
-use Rattle.std.proofs.Common.{◌≡◌, ℕ, ◌<◌, ◌≤◌, ◌+◌, ◌==◌, zero, suc, Bool, true, false, not, if◌then◌else◌, List, [], ◌∷◌, ◌++◌, length, map, take, drop, get_or, Option, Some, None, refl, sym, ap, subst, ◌∙◌, arith, append_assoc}
+use Rattle.std.proofs.Common.{◌≡◌, ℕ, ◌<◌, ◌≤◌, ◌+◌, ◌==◌, zero, suc, Bool, true, false, not, List, [], ◌∷◌, ◌++◌, length, map, take, drop, get_or, refl, sym, ap, subst, ◌∙◌, arith, append_assoc}
 use Rattle.std.specs.Prelude.{slice_set, ◌&&◌}
 use Rattle.std.proofs.lemmas.Bool.Decides.{nat_tests}
 use Rattle.std.specs.List.{AllByRecursion}
-use Rattle.std.proofs.lemmas.List.{append-nil, take_all, take_more, drop_all, drop_more}
+use Rattle.std.proofs.lemmas.List.{append-nil, take_all, drop_all, drop_more}
 use Rattle.notebook.specs.declared.parts.Parts.{Parts}
 use Rattle.session_ops.specs.declared.entry.Entry.{Entry}
-use Rattle.session_ops.specs.State.{State, state, Legal}
-use Rattle.client_sync.specs.Client.{Client as Holder, received, received_entry, put_client, client_of}
+use Rattle.client_sync.specs.Client.{Client as Holder, delivered, received, received_entry}
 use Rattle.client_sync.specs.Stands.{Mirrors, IsNextEntry}
 use Rattle.client_sync.specs.declared.client.Client.{Client}
-use Rattle.world.specs.World.{World, with_client}
-use Rattle.world.specs.Claims.{IsBehind, IsWhole, number_of}
+use Rattle.world.specs.Claims.{IsBehind, IsWhole, HasJoined, number_of}
 use Rattle.world.specs.Waiting.{IsHonest, AreHonest}
-use Rattle.world.proofs.Clients.{received-seen}
+use Rattle.world.proofs.Clients.{received-seen, call-number}
 use Rattle.world.proofs.Standing.{rest-after}
-use Rattle.world.proofs.Honest.{entry-honest, call-number}
+use Rattle.world.proofs.Honest.{entry-honest, honest-joined}
 use Rattle.world.proofs.Next.{next-entry}
 use Rattle.driver.specs.Player.{Game, unseen, receive_all, all_sent}
-use Rattle.driver.specs.Clients.{AreMirrored, HasReceived}
+use Rattle.driver.specs.Clients.{AreMirrored, HasReceived, IsLawful}
 use Rattle.driver.specs.Standing.{world_of}
 
 -- what a client has not received is what comes later
@@ -41,12 +39,12 @@ later-after n0 h c e es is more now =
     let grown : h ≡ (c.seen ++ e ∷ []) ++ es = is.behind ∙ (ap (λ k. c.seen ++ k) more ∙ sym (append_assoc c.seen (e ∷ []) es)) in
     sym (unseen-later n0 h (received_entry n0 c e) now) ∙ (ap (λ k. drop (length k) h) (received-seen n0 c e) ∙ (ap (drop (length (c.seen ++ e ∷ []))) grown ∙ rest-after (c.seen ++ e ∷ []) es))
 
-some-received : (n0 : Parts) (h : List Entry) (c : Holder) (xs rest : List Entry) → Legal n0 h → HasLater n0 h c (xs ++ rest) → HasLater n0 h (received n0 c xs) rest
+some-received : (n0 : Parts) (h : List Entry) (c : Holder) (xs rest : List Entry) → IsLawful n0 h → HasLater n0 h c (xs ++ rest) → HasLater n0 h (received n0 c xs) rest
 some-received n0 h c [] rest l is = is
-some-received n0 h c (x ∷ xs) rest l is = some-received n0 h (received_entry n0 c x) xs rest l (let now : IsHonest n0 h (received_entry n0 c x) = entry-honest n0 h c x (xs ++ rest) l is.honest is.later in record { honest = now; later = later-after n0 h c x (xs ++ rest) is.honest is.later now })
+some-received n0 h c (x ∷ xs) rest l is = some-received n0 h (received_entry n0 c x) xs rest l (let now : IsHonest n0 h (received_entry n0 c x) = entry-honest n0 h c x (xs ++ rest) l.notebook l.legal is.honest is.later in record { honest = now; later = later-after n0 h c x (xs ++ rest) is.honest is.later now })
 
 pub entry-number : (n0 : Parts) (c : Holder) (e : Entry) → (received_entry n0 c e).number ≡ c.number
-entry-number n0 c e = call-number (record c { seen = c.seen ++ e ∷ [] }) e.call e.reply
+entry-number n0 c e = call-number (delivered n0 c) (record c { seen = c.seen ++ e ∷ [] }) e.call e.reply
 
 pub received-number : (n0 : Parts) (c : Holder) (xs : List Entry) → (received n0 c xs).number ≡ c.number
 received-number n0 c [] = refl
@@ -58,7 +56,7 @@ take-split (suc n) [] = refl
 take-split (suc n) (x ∷ xs) = ap (λ ys. x ∷ ys) (take-split n xs)
 
 -- so many of them
-pub many-honest : (n0 : Parts) (h : List Entry) (c : Holder) (many : ℕ) → Legal n0 h → IsHonest n0 h c → IsHonest n0 h (received n0 c (take many (unseen c h)))
+pub many-honest : (n0 : Parts) (h : List Entry) (c : Holder) (many : ℕ) → IsLawful n0 h → IsHonest n0 h c → IsHonest n0 h (received n0 c (take many (unseen c h)))
 many-honest n0 h c many l is =
     let all : is.later ≡ take many (unseen c h) ++ drop many (unseen c h) = sym (unseen-later n0 h c is) ∙ sym (take-split many (unseen c h)) in
     (some-received n0 h c (take many (unseen c h)) (drop many (unseen c h)) l (record { honest = is; later = all })).honest
@@ -68,17 +66,17 @@ abbrev pub now-received : Parts → List Entry → ℕ → Holder → Holder
 now-received n0 h many m = received n0 m (take many (unseen m h))
 
 -- what is left then
-pub many-left : (n0 : Parts) (h : List Entry) (c : Holder) (many : ℕ) → Legal n0 h → IsHonest n0 h c → unseen (received n0 c (take many (unseen c h))) h ≡ drop many (unseen c h)
+pub many-left : (n0 : Parts) (h : List Entry) (c : Holder) (many : ℕ) → IsLawful n0 h → IsHonest n0 h c → unseen (received n0 c (take many (unseen c h))) h ≡ drop many (unseen c h)
 many-left n0 h c many l is =
     let all : is.later ≡ take many (unseen c h) ++ drop many (unseen c h) = sym (unseen-later n0 h c is) ∙ sym (take-split many (unseen c h)) in
     let x : HasLater n0 h (received n0 c (take many (unseen c h))) (drop many (unseen c h)) = some-received n0 h c (take many (unseen c h)) (drop many (unseen c h)) l (record { honest = is; later = all }) in
     unseen-later n0 h (received n0 c (take many (unseen c h))) x.honest ∙ x.later
 
-pub all-honest : (n0 : Parts) (h : List Entry) (c : Holder) → Legal n0 h → IsHonest n0 h c → IsHonest n0 h (received n0 c (unseen c h))
+pub all-honest : (n0 : Parts) (h : List Entry) (c : Holder) → IsLawful n0 h → IsHonest n0 h c → IsHonest n0 h (received n0 c (unseen c h))
 all-honest n0 h c l is = (some-received n0 h c (unseen c h) [] l (record { honest = is; later = sym (unseen-later n0 h c is) ∙ sym (append-nil (unseen c h)) })).honest
 
 -- all clients receive all
-pub each-honest : (g : Game) (h : List Entry) (cs : List Holder) → Legal g.opening h → AllByRecursion (IsHonest g.opening h) cs → AllByRecursion (IsHonest g.opening h) (receive_all g h cs)
+pub each-honest : (g : Game) (h : List Entry) (cs : List Holder) → IsLawful g.opening h → AllByRecursion (IsHonest g.opening h) cs → AllByRecursion (IsHonest g.opening h) (receive_all g h cs)
 each-honest g h [] l all = tt
 each-honest g h (c ∷ cs) l all = (all-honest g.opening h c l all.0, each-honest g h cs l all.1)
 
@@ -90,19 +88,25 @@ pub behind-all : (n0 : Parts) (h : List Entry) (cs : List Holder) → AllByRecur
 behind-all n0 h [] all = tt
 behind-all n0 h (c ∷ cs) all = let is : IsHonest n0 h c = all.0 in ((is.later, is.behind), behind-all n0 h cs all.1)
 
+joined-all : (n0 : Parts) (h : List Entry) (cs : List Holder) → AllByRecursion (IsHonest n0 h) cs → AllByRecursion (HasJoined n0 h) cs
+joined-all n0 h [] all = tt
+joined-all n0 h (c ∷ cs) all = (honest-joined n0 h c all.0, joined-all n0 h cs all.1)
+
 pub each-whole : (g : Game) (h : List Entry) (cs : List Holder) → IsWhole (world_of g.opening h cs) → AreHonest (world_of g.opening h cs) → IsWhole (world_of g.opening h (receive_all g h cs))
 each-whole g h cs whole honest =
-    record { legal = whole.legal; joined = whole.joined ∙ sym (each-number g h cs); behind = behind-all g.opening h (receive_all g h cs) (each-honest g h cs whole.legal honest) }
+    let l : IsLawful g.opening h = record { notebook = whole.notebook; legal = whole.legal } in
+    let all : AllByRecursion (IsHonest g.opening h) (receive_all g h cs) = each-honest g h cs l honest in
+    record { legal = whole.legal; notebook = whole.notebook; joined = joined-all g.opening h (receive_all g h cs) all; behind = behind-all g.opening h (receive_all g h cs) all }
 
 some-left : (e : Entry) (es : List Entry) → true ≡ not (length (e ∷ es) == 0)
 some-left e es = grind (arith, nat_tests)
 
 -- the entry past the cursor was received
-pub next-some : (n0 : Parts) (h : List Entry) (m : Holder) (x y : Client) (at : ℕ) (e : Entry) → Legal n0 h → IsHonest n0 h m → at ≡ length m.seen → at < length h → e ≡ get_or h at e → Mirrors n0 x m → (IsNextEntry n0 m e → Mirrors n0 y (received_entry n0 m e)) → HasReceived n0 h 1 m y × (true ≡ not (length (unseen m h) == 0))
+pub next-some : (n0 : Parts) (h : List Entry) (m : Holder) (x y : Client) (at : ℕ) (e : Entry) → IsLawful n0 h → IsHonest n0 h m → at ≡ length m.seen → at < length h → e ≡ get_or h at e → Mirrors n0 x m → (IsNextEntry n0 m e → Mirrors n0 y (received_entry n0 m e)) → HasReceived n0 h 1 m y × (true ≡ not (length (unseen m h) == 0))
 next-some n0 h m x y at e l is place lt some mir f =
     let here : drop at h ≡ e ∷ drop (at + 1) h = drop_more h at e lt ∙ ap (λ k. k ∷ drop (at + 1) h) (sym some) in
     let left : unseen m h ≡ e ∷ drop (at + 1) h = ap (λ k. drop k h) (sym place) ∙ here in
-    let next : IsNextEntry n0 m e = next-entry n0 h m l is e (drop (at + 1) h) (sym (unseen-later n0 h m is) ∙ left) in
+    let next : IsNextEntry n0 m e = next-entry n0 h m l.legal is e (drop (at + 1) h) (sym (unseen-later n0 h m is) ∙ left) in
     (subst (λ es. Mirrors n0 y (received n0 m (take 1 es))) (sym left) (f next), some-left e (drop (at + 1) h) ∙ ap (λ es. not (length es == 0)) (sym left))
 
 -- so many, and then one more
@@ -112,7 +116,7 @@ take-one zero (x ∷ xs) = refl
 take-one (suc n) [] = refl
 take-one (suc n) (x ∷ xs) = ap (λ ys. x ∷ ys) (take-one n xs)
 
-pub one-more : (n0 : Parts) (h : List Entry) (m : Holder) (many : ℕ) (x : Client) → Legal n0 h → IsHonest n0 h m → HasReceived n0 h 1 (received n0 m (take many (unseen m h))) x → HasReceived n0 h (many + 1) m x
+pub one-more : (n0 : Parts) (h : List Entry) (m : Holder) (many : ℕ) (x : Client) → IsLawful n0 h → IsHonest n0 h m → HasReceived n0 h 1 (received n0 m (take many (unseen m h))) x → HasReceived n0 h (many + 1) m x
 one-more n0 h m many x l is y =
     let c : Holder = received n0 m (take many (unseen m h)) in
     let same : received n0 c (take 1 (unseen c h)) ≡ received n0 m (take (many + 1) (unseen m h)) =
@@ -138,7 +142,7 @@ unseen-short (suc n) [] = omega arith
 unseen-short (suc n) (x ∷ xs) = let r : length (drop n xs) ≤ length xs = unseen-short n xs in omega (arith, r)
 
 -- nothing more is left
-pub no-more : (n0 : Parts) (h : List Entry) (m : Holder) (many more : ℕ) (x : Client) → Legal n0 h → IsHonest n0 h m → many ≤ more → false ≡ not (length (unseen (received n0 m (take many (unseen m h))) h) == 0) → HasReceived n0 h 1 (received n0 m (take many (unseen m h))) x → HasReceived n0 h more m x
+pub no-more : (n0 : Parts) (h : List Entry) (m : Holder) (many more : ℕ) (x : Client) → IsLawful n0 h → IsHonest n0 h m → many ≤ more → false ≡ not (length (unseen (received n0 m (take many (unseen m h))) h) == 0) → HasReceived n0 h 1 (received n0 m (take many (unseen m h))) x → HasReceived n0 h more m x
 no-more n0 h m many more x l is le none y =
     let left : drop many (unseen m h) ≡ [] = empty-of (drop many (unseen m h)) (none ∙ ap (λ es. not (length es == 0)) (many-left n0 h m many l is)) in
     let c : Holder = received n0 m (take many (unseen m h)) in

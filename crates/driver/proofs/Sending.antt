@@ -1,14 +1,11 @@
 -- Messages of one client, and of all, one after the other.
-use Rattle.std.proofs.Common.{◌≡◌, ℕ, ◌<◌, ◌≤◌, ◌+◌, ◌==◌, zero, suc, Bool, true, false, if◌then◌else◌, List, [], ◌∷◌, ◌++◌, length, map, drop, get_or, Option, Some, None, refl, sym, ap, subst, ◌∙◌, arith}
+use Rattle.std.proofs.Common.{◌≡◌, ℕ, ◌<◌, ◌≤◌, ◌+◌, ◌==◌, zero, suc, false, if◌then◌else◌, List, [], ◌∷◌, length, drop, get_or, Some, refl, ap, subst, arith}
 use Rattle.std.proofs.lemmas.List.{drop_more, drop_all}
-use Rattle.std.proofs.lemmas.Bool.Decides.{nat_tests}
 use Rattle.client_sync.specs.Client.{Client as Holder, client_of}
 use Rattle.script.specs.declared.line.ScriptLine.TheVariants.{Send}
 use Rattle.script.specs.declared.line.Count.{Count}
-use Rattle.driver.specs.Turns.{Turn}
 use Rattle.driver.specs.Lines.{nothing_words}
-use Rattle.driver.specs.Player.{Game, Stage, or_none, say, name_of, how_many, play_line, send_next, send_many, send_all, send_each, send_or_nothing}
-use Rattle.driver.specs.Clients.{IsAt}
+use Rattle.driver.specs.Player.{Game, Stage, say, name_of, how_many, play_line, send_next, send_many, send_all, send_each, send_or_nothing}
 use Rattle.driver.specs.Standing.{Stands, Leads, HasDone, HasPlayed}
 use Rattle.driver.specs.declared.player.Player.{Player}
 use Rattle.driver.proofs.Leading.{lead-none, lead-on, lead-as, lead-end}

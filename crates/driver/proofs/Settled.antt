@@ -6,40 +6,47 @@ use Rattle.notebook.specs.declared.parts.Parts.{Parts}
 use Rattle.session_ops.specs.declared.entry.Call.{Call}
 use Rattle.session_ops.specs.declared.entry.Call.TheVariants.{Client as ByClient, Start, Respond}
 use Rattle.session_ops.specs.declared.entry.Reply.{Reply}
-use Rattle.session_ops.specs.declared.entry.Reply.TheVariants.{Accepted, Applied, Started, Stored, Late, Refused}
+use Rattle.session_ops.specs.declared.entry.Reply.TheVariants.{Accepted, Applied, NewCell, NewSection, Started, Stored, Late, Refused}
 use Rattle.session_ops.specs.declared.entry.Entry.{Entry}
-use Rattle.session_ops.specs.State.{State, state, after_call, entries_by}
-use Rattle.session_ops.specs.Work.{Work}
+use Rattle.session_ops.specs.Numbers.{is_in}
+use Rattle.session_ops.specs.State.{State, Job, state, opening, reply, after_call, entries_by, jobs_after, jobs_from, HasReplies}
+use Rattle.lanes.specs.declared.work.Work.{Work}
 use Rattle.session_ops.proofs.Growing.{state-append}
 use Rattle.session_core.specs.Session.{IsSession, history_of, state_of}
 use Rattle.session_core.specs.declared.session.Session.{Session}
 use Rattle.client_sync.specs.Client.{Client as Holder}
-use Rattle.world.specs.Claims.{IsBehind}
+use Rattle.world.specs.Claims.{IsBehind, HasJoined}
 use Rattle.world.specs.Waiting.{IsHonest}
+use Rattle.notebook.specs.Rules.{IsNotebook}
 use Rattle.world.proofs.Honest.{start-honest, respond-honest}
+use Rattle.world.proofs.Moving.{rest-replies}
 use Rattle.script.specs.declared.line.ScriptLine.TheVariants.{Settle, Cells}
 use Rattle.transcript.specs.Texts.{as_text}
 use Rattle.driver.specs.Turns.{Looked, turns_from, AreMarks}
 use Rattle.driver.specs.Player.{Game, Stage, say, states_at}
-use Rattle.driver.specs.Headline.{AllOfRun, AllTaken, IsEvaluation, call_of}
+use Rattle.driver.specs.Headline.{AllOfRun, IsEvaluation, call_of}
 use Rattle.driver.specs.Clients.{AreMirrored}
 use Rattle.driver.specs.Statuses.{Tells, status_lines}
 use Rattle.driver.specs.Settling.{AreEvaluationsBy, HasGoneOn, HasSettled}
 use Rattle.driver.specs.Standing.{Stands, HasPlayed, entries_of, turns_of}
 use Rattle.driver.specs.declared.player.Player.{Player}
-use Rattle.driver.proofs.Marks.{marks-longer, marks-push, turns-looked, turns-evaluated, run-evaluated, asked-evaluated, taken-evaluated}
+use Rattle.driver.proofs.Marks.{marks-longer, marks-push, turns-looked, turns-evaluated, run-evaluated, asked-evaluated}
 
 -- nobody joins by an evaluation
 joined-call : (s : State) (call : Call) (answer : Reply) → IsEvaluation call → (after_call s call answer).joined ≡ s.joined
 joined-call s (ByClient n op) answer h = absurd h
 joined-call s (Start lane) Accepted h = refl
 joined-call s (Start lane) (Applied rev x) h = refl
+joined-call s (Start lane) (NewCell cell) h = refl
+joined-call s (Start lane) (NewSection section) h = refl
 joined-call s (Start lane) (Started eval cell) h = refl
 joined-call s (Start lane) (Stored eval) h = refl
 joined-call s (Start lane) (Late eval) h = refl
 joined-call s (Start lane) (Refused why) h = refl
 joined-call s (Respond eval shown) Accepted h = refl
 joined-call s (Respond eval shown) (Applied rev x) h = refl
+joined-call s (Respond eval shown) (NewCell cell) h = refl
+joined-call s (Respond eval shown) (NewSection section) h = refl
 joined-call s (Respond eval shown) (Started number cell) h = refl
 joined-call s (Respond eval shown) (Stored number) h = refl
 joined-call s (Respond eval shown) (Late number) h = refl
@@ -52,23 +59,31 @@ joined-evaluated n0 h (e ∷ es) ev =
     ∙ (joined-evaluated n0 (h ++ e ∷ []) es ev.1.1 ∙ (ap (λ s. s.joined) (state-append n0 h e) ∙ joined-call (state n0 h) e.call e.reply ev.1.0))
 
 -- a client stands as it should after an evaluation, and after some
-honest-call : (n0 : Parts) (h : List Entry) (c : Holder) (by : ℕ) (call : Call) (answer : Reply) → IsEvaluation call → IsHonest n0 h c → IsHonest n0 (h ++ record { by = by; call = call; reply = answer } ∷ []) c
-honest-call n0 h c by (ByClient n op) answer ev is = absurd ev
-honest-call n0 h c by (Start lane) answer ev is = start-honest n0 h c by lane answer is
-honest-call n0 h c by (Respond eval shown) answer ev is = respond-honest n0 h c by eval shown answer is
+honest-call : (n0 : Parts) (h : List Entry) (c : Holder) (by : ℕ) (call : Call) (answer : Reply) → IsNotebook n0 → answer ≡ reply (state n0 h) call → IsEvaluation call → IsHonest n0 h c → IsHonest n0 (h ++ record { by = by; call = call; reply = answer } ∷ []) c
+honest-call n0 h c by (ByClient n op) answer nb right ev is = absurd ev
+honest-call n0 h c by (Start lane) answer nb right ev is = start-honest n0 h c by lane answer nb right is
+honest-call n0 h c by (Respond eval shown) answer nb right ev is = respond-honest n0 h c by eval shown answer nb right is
 
-honest-evaluated : (n0 : Parts) (h es : List Entry) (c : Holder) → AreEvaluationsBy 1 es → IsHonest n0 h c → IsHonest n0 (h ++ es) c
-honest-evaluated n0 h [] c ev is = subst (λ x. IsHonest n0 x c) (sym (append-nil h)) is
-honest-evaluated n0 h (e ∷ es) c ev is = subst (λ x. IsHonest n0 x c) (append_assoc h (e ∷ []) es) (honest-evaluated n0 (h ++ e ∷ []) es c ev.1.1 (honest-call n0 h c e.by e.call e.reply ev.1.0 is))
+honest-evaluated : (n0 : Parts) (h es : List Entry) (js : List Job) (c : Holder) → IsNotebook n0 → HasReplies (state n0 h) js es → AreEvaluationsBy 1 es → IsHonest n0 h c → IsHonest n0 (h ++ es) c
+honest-evaluated n0 h [] js c nb l ev is = subst (λ x. IsHonest n0 x c) (sym (append-nil h)) is
+honest-evaluated n0 h (e ∷ es) js c nb l ev is =
+    let more : List Job = jobs_after (state n0 h) js e.by e.call e.reply in
+    let rest : HasReplies (state n0 (h ++ e ∷ [])) more es = subst (λ s. HasReplies s more es) (sym (state-append n0 h e)) l.1.1 in
+    subst (λ x. IsHonest n0 x c) (append_assoc h (e ∷ []) es) (honest-evaluated n0 (h ++ e ∷ []) es more c nb rest ev.1.1 (honest-call n0 h c e.by e.call e.reply nb l.1.0 ev.1.0 is))
 
-all-honest : (n0 : Parts) (h es : List Entry) (cs : List Holder) → AreEvaluationsBy 1 es → AllByRecursion (IsHonest n0 h) cs → AllByRecursion (IsHonest n0 (h ++ es)) cs
-all-honest n0 h es [] ev all = tt
-all-honest n0 h es (c ∷ cs) ev all = (honest-evaluated n0 h es c ev all.0, all-honest n0 h es cs ev all.1)
+all-honest : (n0 : Parts) (h es : List Entry) (js : List Job) (cs : List Holder) → IsNotebook n0 → HasReplies (state n0 h) js es → AreEvaluationsBy 1 es → AllByRecursion (IsHonest n0 h) cs → AllByRecursion (IsHonest n0 (h ++ es)) cs
+all-honest n0 h es js [] nb l ev all = tt
+all-honest n0 h es js (c ∷ cs) nb l ev all = (honest-evaluated n0 h es js c nb l ev all.0, all-honest n0 h es js cs nb l ev all.1)
 
 -- it has received a front of the longer history too
 all-behind : (h es : List Entry) (cs : List Holder) → AllByRecursion (IsBehind h) cs → AllByRecursion (IsBehind (h ++ es)) cs
 all-behind h es [] all = tt
 all-behind h es (c ∷ cs) all = ((all.0.0 ++ es, ap (λ x. x ++ es) all.0.1 ∙ append_assoc c.seen all.0.0 es), all-behind h es cs all.1)
+
+-- and its number has joined still
+all-joined : (n0 : Parts) (h h' : List Entry) (cs : List Holder) → (state n0 h').joined ≡ (state n0 h).joined → AllByRecursion (HasJoined n0 h) cs → AllByRecursion (HasJoined n0 h') cs
+all-joined n0 h h' [] e all = tt
+all-joined n0 h h' (c ∷ cs) e all = (ap (is_in c.number) e ∙ all.0, all-joined n0 h h' cs e all.1)
 
 -- the player after evaluations and a look
 pub looked-stands : (g : Game) (p p' : Player) (s : Stage) (lines : List (List ℕ)) → Stands g p s → HasGoneOn g.opening 1 p.session p'.session → p'.clients ≡ p.clients → p'.marks ≡ p.marks ++ length (entries_of p') ∷ [] → Stands g p' (say lines (record s { turns = [] }))
@@ -82,15 +97,16 @@ looked-stands g p p' s lines st gone ec em =
       marks = subst (λ ms. AreMarks 0 ms (length h')) (sym em) (marks-push 0 p.marks (length h') (omega arith) (marks-longer 0 p.marks (length h) (length h') more st.marks));
       run = subst (AllOfRun 0) (sym gone.history) (run-evaluated h gone.more st.run gone.evaluations);
       answered = gone.answered st.answered;
-      taken = subst AllTaken (sym gone.history) (taken-evaluated h gone.more st.taken gone.evaluations);
+      fair = st.fair;
       asked = st.asked ∙ (sym (asked-evaluated h gone.more gone.evaluations) ∙ ap (λ x. map call_of (entries_by x 0)) (sym gone.history));
       whole =
           record {
             legal = gone.session.legal;
-            joined = ap (λ x. (state g.opening x).joined) gone.history ∙ (joined-evaluated g.opening h gone.more gone.evaluations ∙ st.whole.joined);
+            notebook = gone.session.opening;
+            joined = all-joined g.opening h h' s.clients (ap (λ x. (state g.opening x).joined) gone.history ∙ joined-evaluated g.opening h gone.more gone.evaluations) st.whole.joined;
             behind = subst (λ x. AllByRecursion (IsBehind x) s.clients) (sym gone.history) (all-behind h gone.more s.clients st.whole.behind);
           };
-      honest = subst (λ x. AllByRecursion (IsHonest g.opening x) s.clients) (sym gone.history) (all-honest g.opening h gone.more s.clients gone.evaluations st.honest);
+      honest = subst (λ x. AllByRecursion (IsHonest g.opening x) s.clients) (sym gone.history) (all-honest g.opening h gone.more (jobs_from (opening g.opening) [] h) s.clients gone.session.opening (rest-replies (opening g.opening) [] h gone.more (subst (HasReplies (opening g.opening) []) gone.history gone.session.legal.replies)) gone.evaluations st.honest);
       apart = st.apart;
       mirrored = subst (λ v. AreMirrored g.opening v.items s.clients) (sym ec) st.mirrored;
     }

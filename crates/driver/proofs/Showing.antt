@@ -1,60 +1,69 @@
 -- What is shown of a notebook with its revisions, and the number of a client that edits.
-use Rattle.std.proofs.Common.{◌≡◌, ℕ, ◌==◌, nat_lt, Bool, true, false, if◌then◌else◌, List, [], ◌∷◌, ◌++◌, map, Option, Some, None, refl, sym, ap, subst, ◌∙◌}
-use Rattle.std.specs.List.{flat_map}
-use Rattle.std.proofs.lemmas.Bool.{eqb-true}
-use Rattle.std.proofs.lemmas.List.{map-append}
+use Rattle.std.proofs.Common.{◌≡◌, ℕ, ◌==◌, nat_lt, true, false, if◌then◌else◌, List, [], ◌∷◌, Option, Some, None, refl, sym, ap, subst, ◌∙◌}
+use Rattle.std.specs.Prelude.{is_some}
+use Rattle.std.specs.Option.{option_map}
+use Rattle.std.proofs.lemmas.Bool.{eq-eqb}
 use Rattle.delta.specs.declared.Step.{Step}
 use Rattle.delta.specs.Steps.{inserted_by}
 use Rattle.notebook.specs.declared.parts.Parts.{Parts}
 use Rattle.notebook.specs.declared.parts.Cell.{Cell}
-use Rattle.notebook.specs.declared.parts.Section.{Section}
-use Rattle.notebook.specs.Book.{cells, cells_of, found, resourced, resourced_cells, resourced_sections}
-use Rattle.notebook.specs.Rules.{cell_number}
-use Rattle.session_ops.specs.Work.{is_in}
-use Rattle.session_ops.specs.State.{State, Misfit, state, revision, misfit}
-use Rattle.session_ops.specs.Snapshot.{revisions_of}
-use Rattle.session_ops.proofs.Members.{in-here, in-later}
-use Rattle.client_sync.specs.Client.{Client, Pending, Edited, Done, NoCell, EditTooLong, Unfit, edited, edited_cell, with_fitting, with_edit, held, delivered, own_source, pending_of}
+use Rattle.notebook.specs.Book.{cells, found, resourced_cell}
+use Rattle.notebook.proofs.Sources.{found-resourced}
+use Rattle.session_ops.specs.declared.entry.Op.TheVariants.{Report}
+use Rattle.session_ops.specs.State.{State, Misfit, revision, misfit}
+use Rattle.session_ops.specs.Snapshot.{HasRevisions, listed_revision, revision_if}
+use Rattle.session_ops.proofs.Live.{found-number}
+use Rattle.client_sync.specs.Client.{Client, Pending, Edited, Done, NoCell, EditTooLong, Unfit, edited, edited_cell, with_fitting, with_edit, with_message, with_report, reported, held, delivered, own_source, pending_of}
 use Rattle.transcript.specs.Texts.{book_lines, rev_in}
 use Rattle.transcript.proofs.Agreeing.{Agree, book_lines-agree}
 
-ids-cells : (f : Cell → List ℕ) (cs : List Cell) → map cell_number (resourced_cells f cs) ≡ map cell_number cs
-ids-cells f [] = refl
-ids-cells f (c ∷ cs) = rw (ids-cells f cs) refl
-
-ids-sections : (f : Cell → List ℕ) (ss : List Section) → map cell_number (flat_map cells_of (resourced_sections f ss)) ≡ map cell_number (flat_map cells_of ss)
-ids-sections f [] = refl
-ids-sections f (s ∷ ss) =
-    map-append cell_number (resourced_cells f s.cells) (flat_map cells_of (resourced_sections f ss))
-    ∙ (ap (λ ns. ns ++ map cell_number (flat_map cells_of (resourced_sections f ss))) (ids-cells f s.cells) ∙ (ap (λ ns. map cell_number s.cells ++ ns) (ids-sections f ss) ∙ sym (map-append cell_number s.cells (flat_map cells_of ss))))
-
-pub ids-resourced : (f : Cell → List ℕ) (n : Parts) → map cell_number (cells (resourced f n)) ≡ map cell_number (cells n)
-ids-resourced f n = ap (λ ns. n.setup.id ∷ ns) (ids-sections f n.sections)
-
-rev-among : (s : State) (cs : List Cell) (k : ℕ) → is_in k (map cell_number cs) ≡ true → rev_in (revisions_of s cs) k ≡ revision s k
-rev-among s [] k e = absurd (cc e)
-rev-among s (c ∷ cs) k e =
-    elim (c.id == k)
-    as (λ b. (c.id == k) ≡ b → (if b then true else is_in k (map cell_number cs)) ≡ true → (if b then revision s c.id else rev_in (revisions_of s cs) k) ≡ revision s k) [
-      | true ↦ λ t h. ap (revision s) (eqb-true c.id k t)
-      | false ↦ λ t h. rev-among s cs k h
-    ]
-    refl
+rev-listed : (k : ℕ) (revs : List (ℕ × ℕ)) (rev : ℕ) → listed_revision k revs ≡ Some rev → rev_in revs k ≡ rev
+rev-listed k [] rev e = absurd (cc e)
+rev-listed k (r ∷ rs) rev e =
+    elim (r.0 == k)
+    as (λ b. (if b then Some r.1 else listed_revision k rs) ≡ Some rev → (if b then r.1 else rev_in rs k) ≡ rev)
+    [ true ↦ λ h. cc h | false ↦ λ h. rev-listed k rs rev h ]
     e
 
-agree-listed : (s : State) (cs ds : List Cell) → ((k : ℕ) → is_in k (map cell_number ds) ≡ true → is_in k (map cell_number cs) ≡ true) → Agree (rev_in (revisions_of s cs)) (revision s) ds
-agree-listed s cs [] f = tt
-agree-listed s cs (d ∷ ds) f = (rev-among s cs d.id (f d.id (in-here d.id (map cell_number ds))), agree-listed s cs ds (λ k e. f k (in-later k d.id (map cell_number ds) e)))
+rev-of : (s : State) (k : ℕ) (revs : List (ℕ × ℕ)) (o : Option Cell) → found k (cells s.book) ≡ o → is_some o ≡ true → listed_revision k revs ≡ revision_if s o → rev_in revs k ≡ revision s k
+rev-of s k revs None f e l = absurd (cc e)
+rev-of s k revs (Some c) f e l = rev-listed k revs (revision s c.id) l ∙ ap (revision s) (found-number k (cells s.book) c f)
 
--- the lines of a notebook with the same cells as that of a state, by the list of the state's revisions
-pub listed-lines : (s : State) (n : Parts) (revs : List (ℕ × ℕ)) → revs ≡ revisions_of s (cells s.book) → map cell_number (cells n) ≡ map cell_number (cells s.book) → book_lines (rev_in revs) n ≡ book_lines (revision s) n
-listed-lines s n revs er same =
-    ap (λ rs. book_lines (rev_in rs) n) er
-    ∙ book_lines-agree (rev_in (revisions_of s (cells s.book))) (revision s) n (agree-listed s (cells s.book) (cells n) (λ k e. subst (λ ns. is_in k ns ≡ true) same e))
+-- each of these cells lives in the state
+abbrev AllLive : State → List Cell → Type 0
+AllLive s [] = Unit {0}
+AllLive s (d ∷ ds) = (is_some (found d.id (cells s.book)) ≡ true) × AllLive s ds
 
-pub own-lines : (n0 : Parts) (m : Client) (book : Parts) (revs : List (ℕ × ℕ)) → book ≡ held n0 m → revs ≡ revisions_of (delivered n0 m) (cells (delivered n0 m).book) → book_lines (rev_in revs) book ≡ book_lines (revision (delivered n0 m)) (held n0 m)
+agree-listed : (s : State) (revs : List (ℕ × ℕ)) (ds : List Cell) → HasRevisions s revs → AllLive s ds → Agree (rev_in revs) (revision s) ds
+agree-listed s revs [] h f = tt
+agree-listed s revs (d ∷ ds) h f = (rev-of s d.id revs (found d.id (cells s.book)) refl f.0 (h.each d.id), agree-listed s revs ds h f.1)
+
+found-here : (d : Cell) (ds : List Cell) → is_some (found d.id (d ∷ ds)) ≡ true
+found-here d ds = ap (λ b. is_some (if b then Some d else found d.id ds)) (eq-eqb d.id d.id refl)
+
+found-wider : (id : ℕ) (d : Cell) (ds : List Cell) → is_some (found id ds) ≡ true → is_some (found id (d ∷ ds)) ≡ true
+found-wider id d ds e =
+    elim (d.id == id)
+    as (λ b. is_some (if b then Some d else found id ds) ≡ true)
+    [ true ↦ refl | false ↦ e ]
+
+live-wider : (s : State) (cs ds : List Cell) → ((id : ℕ) → is_some (found id ds) ≡ true → is_some (found id (cells s.book)) ≡ true) → AllLive s ds
+live-wider s cs [] f = tt
+live-wider s cs (d ∷ ds) f = (f d.id (found-here d ds), live-wider s cs ds (λ id e. f id (found-wider id d ds e)))
+
+-- the lines of a notebook whose cells live in a state, by the list of the state's revisions
+pub listed-lines : (s : State) (n : Parts) (revs : List (ℕ × ℕ)) → HasRevisions s revs → ((id : ℕ) → is_some (found id (cells n)) ≡ true → is_some (found id (cells s.book)) ≡ true) → book_lines (rev_in revs) n ≡ book_lines (revision s) n
+listed-lines s n revs h same = book_lines-agree (rev_in revs) (revision s) n (agree-listed s revs (cells n) h (live-wider s [] (cells n) same))
+
+some-before : (f : Cell → List ℕ) (o : Option Cell) → is_some (option_map (resourced_cell f) o) ≡ true → is_some o ≡ true
+some-before f None e = absurd (cc e)
+some-before f (Some c) e = refl
+
+pub own-lines : (n0 : Parts) (m : Client) (book : Parts) (revs : List (ℕ × ℕ)) → book ≡ held n0 m → HasRevisions (delivered n0 m) revs → book_lines (rev_in revs) book ≡ book_lines (revision (delivered n0 m)) (held n0 m)
 own-lines n0 m book revs eb er =
-    ap (book_lines (rev_in revs)) eb ∙ listed-lines (delivered n0 m) (held n0 m) revs er (ids-resourced (own_source m.pending) (delivered n0 m).book)
+    let f : Cell → List ℕ = own_source m.pending in
+    let s : State = delivered n0 m in
+    ap (book_lines (rev_in revs)) eb ∙ listed-lines s (held n0 m) revs er (λ id e. some-before f (found id (cells s.book)) (sym (ap is_some (found-resourced f id s.book)) ∙ e))
 
 -- a client that edits keeps its number
 abbrev KeepsNumber : Client → Edited → Type 0
@@ -81,3 +90,11 @@ cell-number c cell rev d (Some own) =
 
 pub edited-number : (n0 : Parts) (c d : Client) (cell : ℕ) (x : List Step) → edited n0 c cell x ≡ Done d → d.number ≡ c.number
 edited-number n0 c d cell x e = subst (KeepsNumber c) e (cell-number c cell (revision (delivered n0 c) cell) x (found cell (cells (held n0 c))))
+
+-- and so does one that reports
+report-number : (c m : Client) (cell rev : ℕ) (own : Option Cell) → with_report c cell rev own ≡ Some m → m.number ≡ c.number
+report-number c m cell rev None e = absurd (cc e)
+report-number c m cell rev (Some own) e = let is : with_message c (Report cell rev) ≡ m = cc e in ap (λ (x : Client). x.number) (sym is)
+
+pub reported-number : (n0 : Parts) (c m : Client) (cell : ℕ) → reported n0 c cell ≡ Some m → m.number ≡ c.number
+reported-number n0 c m cell e = report-number c m cell (revision (delivered n0 c) cell) (found cell (cells (held n0 c))) e

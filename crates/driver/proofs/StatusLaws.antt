@@ -1,7 +1,7 @@
 -- The printed states of the cells, one after the other.
 use Rattle.std.proofs.Common.{◌≡◌, ℕ, ◌+◌, ◌<◌, ◌==◌, Bool, true, false, if◌then◌else◌, List, [], ◌∷◌, ◌++◌, length, drop, get_or, map, Option, Some, None, is_some, refl, sym, ap, subst, ◌∙◌, append_assoc, arith}
 use Rattle.std.proofs.lemmas.Bool.Decides.{nat_tests}
-use Rattle.std.specs.Prelude.{find, ◌||◌, option_map, unwrap_or}
+use Rattle.std.specs.Prelude.{find, ◌||◌, option_map, MatchOption}
 use Rattle.std.specs.Option.{option_copied}
 use Rattle.std.specs.List.{list_any}
 use Rattle.std.proofs.lemmas.Bool.{or_left, or_right, and_from}
@@ -14,16 +14,15 @@ use Rattle.notebook.specs.declared.parts.Kind.{Kind}
 use Rattle.notebook.specs.declared.parts.Kind.TheVariants.{Setup, Code, Markdown}
 use Rattle.notebook.specs.declared.states.Lane.{Lane}
 use Rattle.notebook.specs.declared.states.Lane.TheVariants.{Main}
-use Rattle.notebook.specs.Flow.{Passed, path, passed, flow_in, lane_of, section_lane, is_cell, is_code_kind, is_code_numbered, has_code}
-use Rattle.notebook.specs.Validity.{validity_by, status_by}
-use Rattle.session_ops.specs.Work.{Work, is_in, is_running, last_finished, path_read}
+use Rattle.notebook.specs.Flow.{path, passed, flow_in, lane_of, section_lane, is_cell, is_code_kind, is_code_numbered, has_code}
+use Rattle.lanes.specs.declared.work.Work.{Work}
 use Rattle.transcript.specs.Texts.{as_text, ended_line}
 use Rattle.transcript.specs.States.{state_line}
-use Rattle.main_lane.specs.declared.lane.Row.{Row}
-use Rattle.main_lane.specs.Tracks.{IsRowBy, IsRow}
+use Rattle.lanes.specs.declared.judge.Row.{Row}
+use Rattle.lanes.specs.Rows.{IsRow}
 use Rattle.session_core.specs.Session.{state_of}
 use Rattle.session_core.specs.declared.session.Session.{Session}
-use Rattle.driver.specs.Statuses.{Tells, HasPath, HasPathIfCode, AllHavePaths, AllSectionsHavePaths, cell_line, line_of_kind, code_lines, section_code_lines, setup_line, shown_in}
+use Rattle.driver.specs.Statuses.{Tells, HasPath, HasPathIfCode, AllHavePaths, AllSectionsHavePaths, cell_line, line_of_kind, code_lines, section_code_lines, setup_line}
 
 -- one more cell
 pub cells-more : (n : Parts) (w : Work) (lane : Lane) (cs : List Cell) (i : ℕ) (c : Cell) (out : List ℕ) → i < length cs → c ≡ get_or cs i c → (out ++ as_text (line_of_kind n w lane c c.kind)) ++ as_text (code_lines n w lane (drop (i + 1) cs)) ≡ out ++ as_text (code_lines n w lane (drop i cs))
@@ -102,22 +101,16 @@ all-paths n = sections-paths n n.sections (code-path n)
 pub setup-path : (n : Parts) → HasPath n n.setup.id
 setup-path n = lane-path n n.setup.id (ap (λ b. is_some (if b then Some Main else option_map section_lane (find (has_code n.setup.id) n.sections))) {y = true} (equal-self n.setup.id))
 
-row-by : (n : Parts) (w : Work) (home : Lane) (cell : ℕ) (r : Row) (o : Option (List Passed)) → is_some o ≡ true → IsRowBy w cell o (Some r)
-    → state_line cell home r.status r.validity (option_copied r.shown) ≡ state_line cell home (status_by (is_running w cell) (is_in cell w.queued)) (validity_by (is_in cell w.aborted) (option_map path_read (last_finished w cell)) (unwrap_or o [])) (option_map shown_in (last_finished w cell))
-row-by n w home cell r None some is = absurd (cc some)
-row-by n w home cell r (Some present) some is = rw (is.status, is.validity, is.shown) refl
-
-no-row-by : (w : Work) (cell : ℕ) (o : Option (List Passed)) → is_some o ≡ true → ¬ IsRowBy w cell o None
-no-row-by w cell None some is = cc some
-no-row-by w cell (Some present) some is = is
-
 -- a cell's line by its row
-pub row-line : (n : Parts) (w : Work) (home : Lane) (cell : ℕ) (r : Row) → HasPath n cell → IsRow n w cell (Some r) → state_line cell home r.status r.validity (option_copied r.shown) ≡ cell_line n w home cell
-row-line n w home cell r some is = row-by n w home cell r (path n cell) some is
+pub row-line : (n : Parts) (w : Work) (home : Lane) (cell : ℕ) (r : Row) → IsRow n w cell r → state_line cell home r.status r.validity (option_copied r.shown) ≡ cell_line n w home cell
+row-line n w home cell r is = rw (is.live, is.status, is.validity, is.shown) refl
 
-pub no-row : (n : Parts) (w : Work) (cell : ℕ) → HasPath n cell → ¬ IsRow n w cell None
-no-row n w cell some is = no-row-by w cell (path n cell) some is
+pub no-row : (n : Parts) (cell : ℕ) → HasPath n cell → path n cell ≡ None → ⊥
+no-row n cell some none = absurd (let k : is_some (path n cell) ≡ false = ap is_some none in cc (some, k))
 
 -- a row that a session tells of
-pub told-row : (n : Parts) (w : Work) (s : Session) (cell : ℕ) (r : Option Row) → (t : Tells n w s) → IsRow (state_of t.opening s).book (state_of t.opening s).work cell r → IsRow n w cell r
-told-row n w s cell r t is = subst (λ v. IsRow n v cell r) (sym t.work) (subst (λ m. IsRow m (state_of t.opening s).work cell r) (sym t.book) is)
+abbrev pub IsRowOf : Parts → Work → ℕ → Option Row → Type 0
+IsRowOf n w cell o = MatchOption o (path n cell ≡ None) (IsRow n w cell)
+
+pub told-row : (n : Parts) (w : Work) (s : Session) (cell : ℕ) (r : Option Row) → (t : Tells n w s) → IsRowOf (state_of t.opening s).book (state_of t.opening s).work cell r → IsRowOf n w cell r
+told-row n w s cell r t is = subst (λ v. IsRowOf n v cell r) (sym t.work) (subst (λ m. IsRowOf m (state_of t.opening s).work cell r) (sym t.book) is)

@@ -1,9 +1,11 @@
 -- The clients in memory, and what they stand for.
-use Rattle.std.specs.Prelude.{◌≡◌, ◌<◌, ℕ, ◌+◌, ◌==◌, if◌then◌else◌, false, List, [], ◌∷◌, length, take, get_or, slice_set, Option, Some, None}
+use Rattle.std.specs.Prelude.{◌≡◌, ◌<◌, ℕ, ◌+◌, ◌==◌, if◌then◌else◌, false, List, [], ◌∷◌, length, take, remove, get_or, slice_set, Option, Some, None}
 use Rattle.notebook.specs.declared.parts.Parts.{Parts}
+use Rattle.notebook.specs.Rules.{IsNotebook}
 use Rattle.session_ops.specs.declared.entry.Entry.{Entry}
-use Rattle.session_ops.specs.Work.{is_in}
-use Rattle.client_sync.specs.Client.{Client as Holder, received, client_of, put_client}
+use Rattle.session_ops.specs.Numbers.{is_in}
+use Rattle.session_ops.specs.State.{Legal}
+use Rattle.client_sync.specs.Client.{Client as Holder, received, client_of, put_client, without_client}
 use Rattle.client_sync.specs.Stands.{Mirrors}
 use Rattle.client_sync.specs.declared.client.Client.{Client}
 use Rattle.driver.specs.Player.{unseen}
@@ -30,7 +32,7 @@ abbrev pub AreApart : List ℕ → Type 0
 AreApart [] = Unit {0}
 AreApart (n ∷ ns) = (is_in n ns ≡ false) × AreApart ns
 
--- the client of the number stands at the place, and another may be put there in its stead
+-- the client of the number stands at the place; another may be put there in its stead, and it may be taken out
 pub record IsAt (n0 : Parts) (xs : List Client) (cs : List Holder) (n at : ℕ) : Type 0 where
   pub own : Holder
   pub there : client_of n cs ≡ Some own
@@ -39,6 +41,7 @@ pub record IsAt (n0 : Parts) (xs : List Client) (cs : List Holder) (n at : ℕ) 
   pub mirrors : (x : Client) → x ≡ get_or xs at x → Mirrors n0 x own
   pub kept : (x : Client) → Mirrors n0 x own → AreMirrored n0 (slice_set xs at x) cs
   pub replaced : (x : Client) (c : Holder) → c.number ≡ n → Mirrors n0 x c → AreMirrored n0 (slice_set xs at x) (put_client c cs)
+  pub removed : AreMirrored n0 (remove xs at) (without_client n cs)
 
 -- the place of the client of the number, if the number holds one
 abbrev pub IsPlace : Parts → List Client → List Holder → ℕ → Option ℕ → Type 0
@@ -48,3 +51,8 @@ IsPlace n0 xs cs n (Some at) = IsAt n0 xs cs n at
 -- the client has received so many of the entries past its cursor
 abbrev pub HasReceived : Parts → List Entry → ℕ → Holder → Client → Type 0
 HasReceived n0 h many m x = Mirrors n0 x (received n0 m (take many (unseen m h)))
+
+-- a legal history over a notebook that keeps its rules
+pub record IsLawful (n0 : Parts) (h : List Entry) : Type 0 where
+  pub notebook : IsNotebook n0
+  pub legal : Legal n0 h

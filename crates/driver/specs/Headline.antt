@@ -1,24 +1,25 @@
 -- What a run of a script says: it prints the transcript of one actual history.
-use Rattle.std.specs.Prelude.{◌≡◌, ℕ, ◌+◌, ◌<◌, ◌⊎◌, true, List, [], ◌∷◌, ◌++◌, length, map, take, Option, Some}
+use Rattle.std.specs.Prelude.{◌≡◌, ℕ, ◌+◌, ◌<◌, ◌⊎◌, true, List, [], ◌∷◌, ◌++◌, length, map, take, Some}
 use Rattle.delta.specs.declared.Step.{Step}
 use Rattle.delta.specs.Moves.{text_after}
 use Rattle.notebook.specs.declared.parts.Cell.{Cell}
 use Rattle.notebook.specs.declared.parts.Parts.{Parts}
-use Rattle.notebook.specs.Book.{cells}
+use Rattle.notebook.specs.Book.{cells, found}
 use Rattle.session_ops.specs.declared.entry.Call.{Call}
 use Rattle.session_ops.specs.declared.entry.Call.TheVariants.{Client as ByClient, Start, Respond}
 use Rattle.session_ops.specs.declared.entry.Entry.{Entry}
 use Rattle.session_ops.specs.declared.entry.Reply.{Reply}
-use Rattle.session_ops.specs.declared.entry.Reply.TheVariants.{Applied, Started}
-use Rattle.session_ops.specs.declared.entry.Op.TheVariants.{Delta}
-use Rattle.notebook.specs.Flow.{Passed, path}
-use Rattle.session_ops.specs.Work.{Finished, last_finished, is_evaluated}
+use Rattle.session_ops.specs.declared.entry.Reply.TheVariants.{Started}
+use Rattle.notebook.specs.declared.parts.Passed.{Passed}
+use Rattle.notebook.specs.Flow.{path}
+use Rattle.lanes.specs.declared.work.Finished.{Finished}
+use Rattle.lanes.specs.Work.{last_finished, is_evaluated}
 use Rattle.session_ops.specs.State.{State, Legal, state, first_source, taken_by, entries_by, ShowsAlong}
 use Rattle.client_sync.specs.Client.{Client, held}
-use Rattle.world.specs.Waiting.{IsHonest}
+use Rattle.world.specs.Waiting.{IsHonest, IsFairAnswer}
 use Rattle.script.specs.declared.content.Content.{Content}
 use Rattle.driver.specs.Turns.{AreMarks}
-use Rattle.driver.specs.Player.{Stage}
+use Rattle.driver.specs.Player.{Stage, Sent}
 use Rattle.driver.specs.Transcript.{finished, transcript}
 
 -- calls that evaluators make
@@ -48,25 +49,22 @@ abbrev pub AllClients : Parts → List Entry → List Client → Type 0
 AllClients n0 h [] = Unit {0}
 AllClients n0 h (c ∷ cs) = IsClientOf n0 h c × AllClients n0 h cs
 
--- a client's delta is applied
-abbrev pub IsTaken : Call → Reply → Type 0
-IsTaken (ByClient n (Delta cell base d)) answer = (rev : ℕ) × ((x : List Step) × (answer ≡ Applied rev x))
-IsTaken call answer = Unit {0}
+-- each message that a client sent was answered fairly: a delta was applied and a report accepted, but where the cell was deleted, and nothing was answered as a stranger's
+abbrev pub IsFair : Parts → Sent → Type 0
+IsFair n0 m = IsFairAnswer n0 m.found m.op m.reply
 
--- no delta of a client is refused
-abbrev pub AllTaken : List Entry → Type 0
-AllTaken [] = Unit {0}
-AllTaken (e ∷ es) = IsTaken e.call e.reply × AllTaken es
+abbrev pub AllFair : Parts → List Sent → Type 0
+AllFair n0 [] = Unit {0}
+AllFair n0 (m ∷ ms) = IsFair n0 m × AllFair n0 ms
 
 -- a text after some deltas, one after the other
 abbrev pub text_after_all : List ℕ → List (List Step) → List ℕ
 text_after_all t [] = t
 text_after_all t (x ∷ xs) = text_after_all (text_after x t) xs
 
--- each of these live cells has the source with which it began, after all its accepted deltas in order, each once
-abbrev pub AllGrown : State → List Cell → Type 0
-AllGrown s [] = Unit {0}
-AllGrown s (c ∷ cs) = (c.source ≡ text_after_all (first_source c.id s.began) (taken_by c.id s.taken)) × AllGrown s cs
+-- each live cell has the source with which it began, after all its accepted deltas in order, each once
+abbrev pub AllGrown : State → Type 0
+AllGrown s = (cell : ℕ) (c : Cell) → found cell (cells s.book) ≡ Some c → c.source ≡ text_after_all (first_source cell s.began) (taken_by cell s.taken)
 
 -- each cell that is evaluated shows what one thread gives along the path that it then has
 abbrev pub AllShow : State → Type 0
@@ -99,14 +97,14 @@ pub record IsHistory (n0 : Parts) (workers : ℕ) (h : List Entry) (marks : List
   pub others : AllOfRun workers h
   pub answered : AllAnswered h
 
--- a run that was played to its end: what is printed; the stage at the end, whose calls are the player's entries in order, each once (so each posted message has at most one entry); no delta of a client refused; its clients; each source, with each accepted delta in it once; and what each evaluated cell shows after each front of the history
+-- a run that was played to its end: what is printed; the stage at the end, whose calls are the player's entries in order, each once (so each posted message has at most one entry); each message of a client fairly answered; its clients; each source, with each accepted delta in it once; and what each evaluated cell shows after each front of the history
 pub record IsPlayed (n0 : Parts) (notices : List (List ℕ)) (script : Content) (workers : ℕ) (h : List Entry) (marks : List ℕ) (text : List ℕ) : Type 0 where
   pub history : IsHistory n0 workers h marks
   pub printed : transcript n0 notices script h marks ≡ Some text
   pub stage : Stage
   pub played : finished n0 script h marks ≡ Some stage
   pub calls : stage.asked ≡ map call_of (entries_by h 0)
-  pub taken : AllTaken h
+  pub fair : AllFair n0 stage.sent
   pub clients : AllClients n0 h stage.clients
-  pub once : AllGrown (state n0 h) (cells (state n0 h).book)
+  pub once : AllGrown (state n0 h)
   pub evaluated : (k : ℕ) → AllShow (state n0 (take k h))

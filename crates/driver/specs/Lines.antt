@@ -17,6 +17,21 @@ joined_words name at = name ++ (codes " joined at " ++ decimal at)
 abbrev pub not_joined_words : List ℕ → Reply → List ℕ
 not_joined_words name answer = name ++ (codes " join: " ++ reply_text answer)
 
+abbrev pub left_words : List ℕ → Reply → List ℕ
+left_words name answer = name ++ (codes " leave: " ++ reply_text answer)
+
+abbrev pub raw_joined_words : List ℕ → ℕ → List ℕ
+raw_joined_words name at = name ++ (codes " rawjoined at " ++ decimal at)
+
+abbrev pub raw_not_joined_words : List ℕ → Reply → List ℕ
+raw_not_joined_words name answer = name ++ (codes " rawjoin: " ++ reply_text answer)
+
+abbrev pub raw_words : List ℕ → Reply → List ℕ
+raw_words name answer = name ++ (codes " raw: " ++ reply_text answer)
+
+abbrev pub raw_refused_words : List ℕ → List ℕ
+raw_refused_words name = name ++ codes " raw: refused HasClient"
+
 -- a line that needs a client, whose name holds none
 abbrev pub no_client_words : List ℕ → List ℕ → List ℕ
 no_client_words name word = name ++ (codes " " ++ (word ++ codes ": refused NotJoined"))
@@ -26,6 +41,10 @@ edit_words name cell answer = name ++ (codes " edit " ++ (decimal cell ++ (codes
 
 abbrev pub posted_words : List ℕ → List ℕ
 posted_words name = name ++ codes " post: ok"
+
+-- a report of a cell that the client doesn't have
+abbrev pub not_posted_words : List ℕ → List ℕ
+not_posted_words name = name ++ codes " post: refused NoCell"
 
 abbrev pub sent_words : List ℕ → Reply → List ℕ
 sent_words name answer = name ++ (codes " sent: " ++ reply_text answer)

@@ -5,25 +5,24 @@ use Rattle.delta.specs.declared.Step.{Step}
 use Rattle.notebook.specs.declared.parts.Parts.{Parts}
 use Rattle.notebook.specs.Book.{cells, found}
 use Rattle.session_ops.specs.declared.entry.Op.{Op}
-use Rattle.session_ops.specs.declared.entry.Op.TheVariants.{Join as Joins, Queue as Queues}
+use Rattle.session_ops.specs.declared.entry.Op.TheVariants.{Join as Joins, Leave as Leaves}
 use Rattle.session_ops.specs.declared.entry.Call.{Call}
 use Rattle.session_ops.specs.declared.entry.Call.TheVariants.{Client as ByClient}
 use Rattle.session_ops.specs.declared.entry.Reply.{Reply}
 use Rattle.session_ops.specs.declared.entry.Reply.TheVariants.{Accepted}
 use Rattle.session_ops.specs.declared.entry.Entry.{Entry}
-use Rattle.session_ops.specs.Work.{is_idle}
+use Rattle.session_ops.specs.Structure.{is_postable}
+use Rattle.lanes.specs.Work.{is_idle}
 use Rattle.session_ops.specs.State.{State, state, revision, refusal_of}
 use Rattle.session_ops.specs.Same.{same_call}
-use Rattle.client_sync.specs.Client.{Client, Edited, Done, NoCell, EditTooLong, Unfit, edited, received, held, delivered, joined_client, client_of, put_client, with_message, pending_of}
+use Rattle.client_sync.specs.Client.{Client, Edited, Done, NoCell, EditTooLong, Unfit, edited, reported, received, held, delivered, joined_client, client_of, put_client, without_client, with_message, pending_of}
 use Rattle.world.specs.Claims.{number_of}
 use Rattle.transcript.specs.Texts.{refusal_text, book_lines, as_text}
 use Rattle.script.specs.declared.line.ScriptLine.{ScriptLine}
-use Rattle.script.specs.declared.line.ScriptLine.TheVariants.{Join, Edit, Post, Send, Recv, Sync, Show, Pending, Settle, Cells}
+use Rattle.script.specs.declared.line.ScriptLine.TheVariants.{Join, Leave, Edit, Post, PostReport, Send, Recv, Sync, Show, Pending, RawJoin, Raw, Settle, Cells}
 use Rattle.script.specs.declared.line.Count.{Count}
 use Rattle.script.specs.declared.line.Count.TheVariants.{AtMost, All}
-use Rattle.script.specs.declared.line.PostedOp.{PostedOp}
-use Rattle.script.specs.declared.line.PostedOp.TheVariants.{Queue}
-use Rattle.driver.specs.Lines.{joined_words, not_joined_words, no_client_words, edit_words, posted_words, sent_words, nothing_words, received_words, sync_words, pending_answer, pending_words}
+use Rattle.driver.specs.Lines.{joined_words, not_joined_words, raw_joined_words, raw_not_joined_words, left_words, raw_words, raw_refused_words, no_client_words, edit_words, posted_words, not_posted_words, sent_words, nothing_words, received_words, sync_words, pending_answer, pending_words}
 use Rattle.driver.specs.Statuses.{status_lines}
 use Rattle.driver.specs.Turns.{Turn, Made, Looked}
 
@@ -32,19 +31,27 @@ pub record Game : Type 0 where
   pub opening : Parts
   pub names : List (List ℕ)
 
--- where the play stands: the turns not yet used, the clients in order of joining, the calls made, and the bytes printed
+-- a message that a client sent: the entries that it found, what it asked, and the reply
+pub record Sent : Type 0 where
+  pub found : List Entry
+  pub op : Op
+  pub reply : Reply
+
+-- where the play stands: the turns not yet used, the clients in order of joining, the calls made, those of them that clients sent, and the bytes printed
 pub record Stage : Type 0 where
   pub turns : List Turn
   pub clients : List Client
   pub asked : List Call
+  pub sent : List Sent
   pub said : List ℕ
 
 abbrev pub or_none : {A B : Type 0} → Option A → (A → Option B) → Option B
 or_none None f = None
 or_none (Some a) f = f a
 
--- the entries after a turn that made one, its reply, and the stage
+-- the entries that a turn found that made one, the entries with it, its reply, and the stage
 pub record Answered : Type 0 where
+  pub found : List Entry
   pub seen : List Entry
   pub reply : Reply
   pub stage : Stage
@@ -52,7 +59,7 @@ pub record Answered : Type 0 where
 abbrev pub answered : Call → Stage → List Turn → Option Answered
 answered call s [] = None
 answered call s (Looked m ∷ rest) = None
-answered call s (Made seen e ∷ rest) = if same_call e.call call then Some (record { seen = seen ++ e ∷ []; reply = e.reply; stage = record s { turns = rest; asked = s.asked ++ call ∷ [] } }) else None
+answered call s (Made seen e ∷ rest) = if same_call e.call call then Some (record { found = seen; seen = seen ++ e ∷ []; reply = e.reply; stage = record s { turns = rest; asked = s.asked ++ call ∷ [] } }) else None
 
 -- the next turn made an entry with just this call
 abbrev pub asks : Call → Stage → Option Answered
@@ -94,6 +101,23 @@ joined g n seen s answer = say (not_joined_words (name_of g n) answer ∷ []) s
 abbrev pub play_join : Game → ℕ → Stage → Option Stage
 play_join g n s = or_none (asks (ByClient n Joins) s) (λ a. Some (joined g n a.seen a.stage a.reply))
 
+-- leave: the name's client is gone, with its outbox
+abbrev pub play_leave : Game → ℕ → Stage → Option Stage
+play_leave g n s = or_none (asks (ByClient n Leaves) s) (λ a. Some (say (left_words (name_of g n) a.reply ∷ []) (with_clients (without_client n a.stage.clients) a.stage)))
+
+-- rawjoin
+abbrev pub raw_joined : Game → ℕ → List Entry → Stage → Reply → Stage
+raw_joined g n seen s Accepted = say (raw_joined_words (name_of g n) (length seen) ∷ []) s
+raw_joined g n seen s answer = say (raw_not_joined_words (name_of g n) answer ∷ []) s
+
+abbrev pub play_raw_join : Game → ℕ → Stage → Option Stage
+play_raw_join g n s = or_none (asks (ByClient n Joins) s) (λ a. Some (raw_joined g n a.seen a.stage a.reply))
+
+-- raw: a call of a name that holds no client
+abbrev pub play_raw : Game → ℕ → Op → Stage → Option Client → Option Stage
+play_raw g n op s None = or_none (asks (ByClient n op) s) (λ a. Some (say (raw_words (name_of g n) a.reply ∷ []) a.stage))
+play_raw g n op s (Some c) = Some (say (raw_refused_words (name_of g n) ∷ []) s)
+
 -- a line that needs a client, whose name holds none
 abbrev pub no_client : Game → ℕ → List ℕ → Stage → Stage
 no_client g n word s = say (no_client_words (name_of g n) word ∷ []) s
@@ -112,13 +136,22 @@ abbrev pub play_edit : Game → ℕ → ℕ → List Step → Stage → Option C
 play_edit g n cell d s None = no_client g n (codes "edit") s
 play_edit g n cell d s (Some c) = with_edited g n cell s (edited g.opening c cell d)
 
--- post: one more message waits to be sent
-abbrev pub op_of : PostedOp → Op
-op_of (Queue cell) = Queues cell
+-- post: one more message waits to be sent; what can't be posted changes nothing
+abbrev pub posted : Game → ℕ → Op → Stage → Client → Stage
+posted g n op s c = say (posted_words (name_of g n) ∷ []) (with_clients (put_client (with_message c op) s.clients) s)
 
 abbrev pub play_post : Game → ℕ → Op → Stage → Option Client → Stage
 play_post g n op s None = no_client g n (codes "post") s
-play_post g n op s (Some c) = say (posted_words (name_of g n) ∷ []) (with_clients (put_client (with_message c op) s.clients) s)
+play_post g n op s (Some c) = if is_postable op then posted g n op s c else s
+
+-- post a report of the client's revision of a cell
+abbrev pub with_report : Game → ℕ → Stage → Option Client → Stage
+with_report g n s None = say (not_posted_words (name_of g n) ∷ []) s
+with_report g n s (Some c) = say (posted_words (name_of g n) ∷ []) (with_clients (put_client c s.clients) s)
+
+abbrev pub play_report : Game → ℕ → ℕ → Stage → Option Client → Stage
+play_report g n cell s None = no_client g n (codes "post") s
+play_report g n cell s (Some c) = with_report g n s (reported g.opening c cell)
 
 -- so many, or all where there are fewer
 abbrev pub how_many : Count → ℕ → ℕ
@@ -129,11 +162,14 @@ how_many All there = there
 abbrev pub without_front : Client → List Op → Client
 without_front c rest = record c { outbox = rest }
 
+abbrev pub with_sent : List Entry → Op → Reply → Stage → Stage
+with_sent found op answer s = record s { sent = s.sent ++ record { found = found; op = op; reply = answer } ∷ [] }
+
 abbrev pub send_front : Game → Client → List Op → Stage → Option Stage
 send_front g c [] s = Some s
 send_front g c (m ∷ rest) s =
     or_none (asks (ByClient c.number m) s)
-    (λ a. Some (say (sent_words (name_of g c.number) a.reply ∷ []) (with_clients (put_client (without_front c rest) a.stage.clients) a.stage)))
+    (λ a. Some (say (sent_words (name_of g c.number) a.reply ∷ []) (with_clients (put_client (without_front c rest) a.stage.clients) (with_sent a.found m a.reply a.stage))))
 
 abbrev pub send_next_of : Game → Stage → Option Client → Option Stage
 send_next_of g s None = Some s
@@ -239,13 +275,17 @@ play_cells g s = or_none (looks s) (λ m. Some (say (states_at (state_at g m)) m
 -- what a line makes of the stage; nothing where a turn doesn't fit
 abbrev pub play_line : Game → ScriptLine → Stage → Option Stage
 play_line g (Join n) s = play_join g n s
+play_line g (Leave n) s = play_leave g n s
 play_line g (Edit n cell d) s = Some (play_edit g n cell d s (client_of n s.clients))
-play_line g (Post n op) s = Some (play_post g n (op_of op) s (client_of n s.clients))
+play_line g (Post n op) s = Some (play_post g n op s (client_of n s.clients))
+play_line g (PostReport n cell) s = Some (play_report g n cell s (client_of n s.clients))
 play_line g (Send n count) s = play_send g n count s (client_of n s.clients)
 play_line g (Recv n count) s = play_recv g n count s (client_of n s.clients)
 play_line g Sync s = rounds (length s.turns) g s
 play_line g (Show n) s = Some (play_show g n s (client_of n s.clients))
 play_line g (Pending n cell) s = Some (play_pending g n cell s (client_of n s.clients))
+play_line g (RawJoin n) s = play_raw_join g n s
+play_line g (Raw n op) s = play_raw g n op s (client_of n s.clients)
 play_line g Settle s = play_settle g s
 play_line g Cells s = play_cells g s
 

@@ -2,7 +2,7 @@
 use Rattle.std.specs.Prelude.{◌≡◌, ℕ, true, List, [], ◌∷◌, ◌++◌}
 use Rattle.notebook.specs.declared.parts.Parts.{Parts}
 use Rattle.session_ops.specs.declared.entry.Entry.{Entry}
-use Rattle.session_ops.specs.Work.{is_idle}
+use Rattle.lanes.specs.Work.{is_idle}
 use Rattle.ex_model.specs.declared.ran.Shown.{Shown}
 use Rattle.session_ops.specs.declared.entry.Call.TheVariants.{Respond}
 use Rattle.session_ops.specs.declared.entry.Reply.{Reply}

@@ -1,12 +1,14 @@
 -- Where the play of a script stands, and what a part of it makes of that.
-use Rattle.std.specs.Prelude.{◌≡◌, ◌≢◌, ℕ, List, [], ◌∷◌, ◌++◌, length, map, Option, Some, ◌⊎◌, codes}
+use Rattle.std.specs.Prelude.{◌≡◌, ◌≢◌, ℕ, Bool, true, false, List, [], ◌∷◌, ◌++◌, length, map, Option, Some, None, ◌⊎◌, codes}
 use Rattle.session_ops.specs.declared.entry.Call.{Call}
+use Rattle.session_ops.specs.declared.entry.Op.{Op}
+use Rattle.session_ops.specs.Structure.{is_postable}
 use Rattle.session_ops.specs.declared.entry.Reply.{Reply}
 use Rattle.session_ops.specs.declared.entry.Entry.{Entry}
 use Rattle.session_ops.specs.State.{entries_by}
 use Rattle.notebook.specs.declared.parts.Parts.{Parts}
 use Rattle.delta.specs.declared.Step.{Step}
-use Rattle.client_sync.specs.Client.{Client as Holder, Done, edited, joined_client}
+use Rattle.client_sync.specs.Client.{Client as Holder, Done, edited, reported, joined_client, with_message}
 use Rattle.client_sync.specs.Causes.{IsEditCause}
 use Rattle.client_sync.specs.Stands.{Mirrors}
 use Rattle.client_sync.specs.declared.client.Client.{Client}
@@ -19,10 +21,10 @@ use Rattle.world.specs.Waiting.{AreHonest}
 use Rattle.script.specs.declared.line.ScriptLine.{ScriptLine}
 use Rattle.script.specs.declared.line.Count.{Count}
 use Rattle.transcript.specs.Texts.{as_text}
-use Rattle.driver.specs.Lines.{sent_words, edit_words, error_words, received_words}
+use Rattle.driver.specs.Lines.{sent_words, edit_words, error_words, received_words, posted_words, not_posted_words}
 use Rattle.driver.specs.Turns.{Turn, turns_from, AreMarks}
 use Rattle.driver.specs.Player.{Game, Stage, play_line, round, receive_some}
-use Rattle.driver.specs.Headline.{AllOfRun, AllAnswered, AllTaken, call_of}
+use Rattle.driver.specs.Headline.{AllOfRun, AllAnswered, AllFair, call_of}
 use Rattle.driver.specs.Clients.{AreMirrored, AreApart}
 use Rattle.driver.specs.declared.player.Player.{Player}
 
@@ -45,7 +47,7 @@ pub record Stands (g : Game) (p : Player) (s : Stage) : Type 0 where
   pub marks : AreMarks 0 p.marks (length (entries_of p))
   pub run : AllOfRun 0 (entries_of p)
   pub answered : AllAnswered (entries_of p)
-  pub taken : AllTaken (entries_of p)
+  pub fair : AllFair g.opening s.sent
   pub asked : s.asked ≡ map call_of (entries_by (entries_of p) 0)
   pub whole : IsWhole (world_of g.opening (entries_of p) s.clients)
   pub honest : AreHonest (world_of g.opening (entries_of p) s.clients)
@@ -78,6 +80,12 @@ pub record HasAsked (n0 : Parts) (call : Call) (name : List ℕ) (old new : Play
   pub clients : new.clients ≡ old.clients
   pub marks : new.marks ≡ old.marks
   pub printed : out ≡ before ++ as_text (sent_words name reply ∷ [])
+
+-- a call was made under 0, and answered so
+pub record HasCalled (n0 : Parts) (call : Call) (old new : Player) (answer : Reply) : Type 0 where
+  pub answered : HasAnswered n0 0 call old.session new.session answer
+  pub clients : new.clients ≡ old.clients
+  pub marks : new.marks ≡ old.marks
 
 -- a round of sync was made: its look found so many entries
 pub record HasRound (g : Game) (old new : Player) (s : Stage) (at : ℕ) (before out : List ℕ) : Type 0 where
@@ -117,6 +125,22 @@ pub record IsUnedited (n0 : Parts) (name : List ℕ) (cell : ℕ) (d : List Step
 
 abbrev pub HasEdited : Parts → List ℕ → ℕ → List Step → Client → Holder → List ℕ → List ℕ → Type 0
 HasEdited n0 name cell d c m before after = IsEdited n0 name cell d c m before after ⊎ IsUnedited n0 name cell d c m before after
+
+-- the client posted the operation, where it may be posted, and stands for what it did otherwise
+abbrev pub HasPostedIf : Parts → List ℕ → Op → Client → Holder → List ℕ → List ℕ → Bool → Type 0
+HasPostedIf n0 name op c m before after true = Mirrors n0 c (with_message m op) × (after ≡ before ++ as_text (posted_words name ∷ []))
+HasPostedIf n0 name op c m before after false = Mirrors n0 c m × (after ≡ before)
+
+abbrev pub HasPosted : Parts → List ℕ → Op → Client → Holder → List ℕ → List ℕ → Type 0
+HasPosted n0 name op c m before after = HasPostedIf n0 name op c m before after (is_postable op)
+
+-- the client posted a report, or has no such cell
+abbrev pub HasReportedSo : Parts → List ℕ → Client → Holder → List ℕ → List ℕ → Option Holder → Type 0
+HasReportedSo n0 name c m before after None = Mirrors n0 c m × (after ≡ before ++ as_text (not_posted_words name ∷ []))
+HasReportedSo n0 name c m before after (Some m') = Mirrors n0 c m' × (after ≡ before ++ as_text (posted_words name ∷ []))
+
+abbrev pub HasReported : Parts → List ℕ → ℕ → Client → Holder → List ℕ → List ℕ → Type 0
+HasReported n0 name cell c m before after = HasReportedSo n0 name c m before after (reported n0 m cell)
 
 -- the client received some of the entries past its cursor, and its cursor was printed
 pub record HasReceivedSome (g : Game) (count : Count) (h : List Entry) (m : Holder) (c : Client) (name before after : List ℕ) : Type 0 where

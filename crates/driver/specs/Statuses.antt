@@ -1,6 +1,5 @@
 -- The states of the setup and code cells, as lines.
 use Rattle.std.specs.Prelude.{◌≡◌, ℕ, ◌==◌, if◌then◌else◌, List, [], ◌∷◌, ◌++◌, length, IsSome, option_map, unwrap_or}
-use Rattle.ex_model.specs.declared.ran.Shown.{Shown}
 use Rattle.notebook.specs.declared.parts.Cell.{Cell}
 use Rattle.notebook.specs.declared.parts.Section.{Section}
 use Rattle.notebook.specs.declared.parts.Kind.{Kind}
@@ -11,21 +10,19 @@ use Rattle.notebook.specs.declared.states.Lane.TheVariants.{Main}
 use Rattle.notebook.specs.declared.states.Validity.{Validity}
 use Rattle.notebook.specs.Flow.{path, section_lane}
 use Rattle.notebook.specs.Validity.{validity_by, status_by}
-use Rattle.session_ops.specs.Work.{Work, Finished, is_in, is_running, last_finished, path_read}
+use Rattle.lanes.specs.declared.work.Work.{Work}
+use Rattle.lanes.specs.Work.{is_queued, is_aborted, is_running, last_finished, path_read, shown_in}
 use Rattle.transcript.specs.States.{state_line}
 use Rattle.session_core.specs.Session.{IsSession, state_of}
 use Rattle.session_core.specs.declared.session.Session.{Session}
 
-abbrev pub shown_in : Finished → Shown
-shown_in f = f.shown
-
 -- what a cell's last evaluation is worth now
 abbrev pub validity_now : Parts → Work → ℕ → Validity
-validity_now n w cell = validity_by (is_in cell w.aborted) (option_map path_read (last_finished w cell)) (unwrap_or (path n cell) [])
+validity_now n w cell = validity_by (is_aborted w cell) (option_map path_read (last_finished w cell)) (unwrap_or (path n cell) [])
 
 -- a cell of a lane, with what is asked for it and what it shows
 abbrev pub cell_line : Parts → Work → Lane → ℕ → List ℕ
-cell_line n w lane cell = state_line cell lane (status_by (is_running w cell) (is_in cell w.queued)) (validity_now n w cell) (option_map shown_in (last_finished w cell))
+cell_line n w lane cell = state_line cell lane (status_by (is_running w cell) (is_queued w cell)) (validity_now n w cell) (option_map shown_in (last_finished w cell))
 
 abbrev pub line_of_kind : Parts → Work → Lane → Cell → Kind → List (List ℕ)
 line_of_kind n w lane c Setup = []

@@ -5,7 +5,7 @@ ghost use Rattle.notebook.specs.declared.parts.Cell.{Cell};
 ghost use Rattle.client_sync.specs.Client.{Pending};
 ghost use Rattle.client_sync.specs.Stands.{IsPendingOf, IsViewOf};
 ghost use Rattle.std.specs.Option.{option_copied};
-ghost use Rattle.driver.specs.Lines.{joined_words, not_joined_words, no_client_words, edit_words, posted_words, sent_words, nothing_words, received_words, sync_words, flight_words, pending_answer, pending_words, error_words};
+ghost use Rattle.driver.specs.Lines.{joined_words, not_joined_words, left_words, raw_joined_words, raw_not_joined_words, raw_words, raw_refused_words, no_client_words, edit_words, posted_words, not_posted_words, sent_words, nothing_words, received_words, sync_words, flight_words, pending_answer, pending_words, error_words};
 
 use client_sync::{EditError, PendingEdits};
 use delta::Delta;
@@ -30,6 +30,57 @@ pub(crate) fn push_not_joined(out: &mut String, name: &str, reply: &Reply) -> Re
     push_plain(out, " join: ")?;
     push_reply(out, reply)?;
     push_plain(out, "\n")
+}
+
+/// `NAME leave: R`.
+pub(crate) fn push_left(out: &mut String, name: &str, reply: &Reply) -> Result<(), AllocError>
+    ensures { OnOk result (string_bytes out.new ≡ string_bytes out.old ++ as_text (left_words name.now reply.now ∷ [])) }
+{
+    push_plain(out, name)?;
+    push_plain(out, " leave: ")?;
+    push_reply(out, reply)?;
+    push_plain(out, "\n")
+}
+
+/// `NAME rawjoined at K`.
+pub(crate) fn push_raw_joined(out: &mut String, name: &str, at: u64) -> Result<(), AllocError>
+    ensures { OnOk result (string_bytes out.new ≡ string_bytes out.old ++ as_text (raw_joined_words name.now at ∷ [])) }
+{
+    push_plain(out, name)?;
+    push_named(out, " rawjoined at ", at)?;
+    push_plain(out, "\n")
+}
+
+/// `NAME rawjoin: R`.
+pub(crate) fn push_raw_not_joined(
+    out: &mut String,
+    name: &str,
+    reply: &Reply,
+) -> Result<(), AllocError>
+    ensures { OnOk result (string_bytes out.new ≡ string_bytes out.old ++ as_text (raw_not_joined_words name.now reply.now ∷ [])) }
+{
+    push_plain(out, name)?;
+    push_plain(out, " rawjoin: ")?;
+    push_reply(out, reply)?;
+    push_plain(out, "\n")
+}
+
+/// `NAME raw: R`.
+pub(crate) fn push_raw(out: &mut String, name: &str, reply: &Reply) -> Result<(), AllocError>
+    ensures { OnOk result (string_bytes out.new ≡ string_bytes out.old ++ as_text (raw_words name.now reply.now ∷ [])) }
+{
+    push_plain(out, name)?;
+    push_plain(out, " raw: ")?;
+    push_reply(out, reply)?;
+    push_plain(out, "\n")
+}
+
+/// `NAME raw: refused HasClient`.
+pub(crate) fn push_raw_refused(out: &mut String, name: &str) -> Result<(), AllocError>
+    ensures { OnOk result (string_bytes out.new ≡ string_bytes out.old ++ as_text (raw_refused_words name.now ∷ [])) }
+{
+    push_plain(out, name)?;
+    push_plain(out, " raw: refused HasClient\n")
 }
 
 /// `NAME WORD: refused NotJoined`.
@@ -112,6 +163,14 @@ pub(crate) fn push_posted(out: &mut String, name: &str) -> Result<(), AllocError
 {
     push_plain(out, name)?;
     push_plain(out, " post: ok\n")
+}
+
+/// `NAME post: refused NoCell`, of a report.
+pub(crate) fn push_not_posted(out: &mut String, name: &str) -> Result<(), AllocError>
+    ensures { OnOk result (string_bytes out.new ≡ string_bytes out.old ++ as_text (not_posted_words name.now ∷ [])) }
+{
+    push_plain(out, name)?;
+    push_plain(out, " post: refused NoCell\n")
 }
 
 /// `NAME sent: R`.

@@ -2,7 +2,6 @@
 ghost use Rattle.std.specs.Prelude.{◌≡◌, ℕ, ◌≤◌, [], List, OnOk, IfOk, OnErr, IsErrOf, string_bytes};
 ghost use Rattle.book_outside.specs.Outside.{Rose, AppendsAll};
 ghost use Rattle.notebook.specs.declared.parts.Parts.{Parts};
-ghost use Rattle.notebook.specs.Flow.{IsUnbranched};
 ghost use Rattle.session_ops.specs.State.{state};
 ghost use Rattle.transcript.specs.Texts.{as_text};
 ghost use Rattle.driver.specs.Player.{Game, Stage};
@@ -51,7 +50,6 @@ pub(crate) fn play<R: Wait, K: Sink>(
     content: &Content,
     sink: &mut K,
 ) -> Played
-    requires unbranched { IsUnbranched book }
     ensures played { IsPlayedSo book content.now (K.faults sink.old) (K.faults sink.new) (K.written sink.old) (K.written sink.new) result }
 {
     let mut player = match Player::new(alloc, book) {

@@ -2,32 +2,33 @@
 ghost use Rattle.std.specs.Prelude.{◌≡◌, ℕ, ◌+◌, ◌∷◌, [], ◌++◌, OnOk, IfOk, List, map, slice_get, length, string_bytes};
 ghost use Rattle.std.specs.Str.{encode_utf8_all};
 ghost use Rattle.notebook.specs.declared.parts.Parts.{Parts};
-ghost use Rattle.notebook.specs.Flow.{IsUnbranched};
 ghost use Rattle.session_ops.specs.declared.entry.Call.TheVariants.{Client as ByClient};
-ghost use Rattle.script.specs.declared.line.ScriptLine.TheVariants.{Join, Edit, Post, Send, Recv, Sync, Show, Pending, Settle, Cells};
+ghost use Rattle.script.specs.declared.line.ScriptLine.TheVariants.{Join, Leave, Edit, Post, PostReport, Send, Recv, Sync, Show, Pending, RawJoin, Raw, Settle, Cells};
 ghost use Rattle.session_core.specs.Session.{IsSession};
 ghost use Rattle.client_sync.specs.Client.{Client as Holder, with_message};
 ghost use Rattle.client_sync.specs.Stands.{Mirrors, IsPostable, number_in};
+ghost use Rattle.session_ops.specs.declared.entry.Op.TheVariants.{Leave as Leaves, Join as Joins};
 ghost use Rattle.transcript.specs.Texts.{as_text};
 ghost use Rattle.driver.specs.Lines.{posted_words};
-ghost use Rattle.session_ops.specs.State.{Legal};
+ghost use Rattle.driver.specs.Clients.{IsLawful};
 ghost use Rattle.world.specs.Waiting.{IsHonest};
-ghost use Rattle.driver.specs.Player.{Game, Stage, name_of, or_no_name, op_of, how_many, send_next, send_many, send_all, send_each, send_or_nothing};
-ghost use Rattle.driver.specs.Standing.{Stands, HasPlayed, HasDone, HasAsked, HasRound, HasAdmitted, HasEdited, HasReceivedSome, entries_of};
+ghost use Rattle.driver.specs.Player.{Game, Stage, name_of, or_no_name, how_many, send_next, send_many, send_all, send_each, send_or_nothing};
+ghost use Rattle.driver.specs.Standing.{Stands, HasPlayed, HasDone, HasAsked, HasCalled, HasRound, HasAdmitted, HasEdited, HasPosted, HasReported, HasReceivedSome, entries_of};
 ghost use Rattle.driver.specs.Ends.{IsFresh};
 
-use crate::clients::{all_sent, deliver, deliver_all, place_of};
+use crate::clients::{all_sent, deliver, deliver_all, place_of, remove};
 use crate::lines::{
-    push_edit_refused, push_edited, push_joined, push_no_client, push_not_joined,
-    push_nothing_sent, push_pending, push_posted, push_received, push_sent, push_sync,
+    push_edit_refused, push_edited, push_joined, push_left, push_no_client, push_not_joined,
+    push_not_posted, push_nothing_sent, push_pending, push_posted, push_raw, push_raw_joined,
+    push_raw_not_joined, push_raw_refused, push_received, push_sent, push_sync,
 };
 use crate::settling::settle;
 use crate::statuses::push_statuses;
-use client_sync::Client;
+use client_sync::{Client, PostError};
 use delta::Delta;
 use notebook::{CellId, Notebook};
 use plain_list::Items;
-use script::{Count, PostedOp, ScriptLine};
+use script::{Count, ScriptLine};
 use session_core::Session;
 use session_ops::{Entry, Op, Reply};
 use std::alloc::{AllocError, Global};
@@ -48,7 +49,6 @@ pub(crate) struct Player {
 impl Player {
     /// A player before the first line.
     pub(crate) fn new(alloc: Global, book: Notebook) -> Result<Player, AllocError>
-        requires { IsUnbranched book }
         ensures { IfOk result (IsFresh book) }
     {
         Ok(Player {
@@ -73,6 +73,9 @@ impl Player {
             ScriptLine::Join { client } => {
                 self.join(name_in(names, *client), *client, &mut out)?;
             }
+            ScriptLine::Leave { client } => {
+                self.leave(name_in(names, *client), *client, &mut out)?;
+            }
             ScriptLine::Edit {
                 client,
                 cell,
@@ -81,7 +84,10 @@ impl Player {
                 self.edit(name_in(names, *client), *client, *cell, delta, &mut out)?;
             }
             ScriptLine::Post { client, op } => {
-                self.post(name_in(names, *client), *client, *op, &mut out)?;
+                self.post(name_in(names, *client), *client, op, &mut out)?;
+            }
+            ScriptLine::PostReport { client, cell } => {
+                self.post_report(name_in(names, *client), *client, *cell, &mut out)?;
             }
             ScriptLine::Send { client, count } => {
                 self.send(name_in(names, *client), *client, *count, &mut out)?;
@@ -97,6 +103,12 @@ impl Player {
             }
             ScriptLine::Pending { client, cell } => {
                 self.pending(name_in(names, *client), *client, *cell, &mut out)?;
+            }
+            ScriptLine::RawJoin { client } => {
+                self.raw_join(name_in(names, *client), *client, &mut out)?;
+            }
+            ScriptLine::Raw { client, op } => {
+                self.raw(name_in(names, *client), *client, op, &mut out)?;
             }
             ScriptLine::Settle => {
                 self.settle(rt, &mut out)?;
@@ -117,7 +129,7 @@ impl Player {
     ) -> Result<(), AllocError>
         ensures { (g : Game) (s : Stage) → name.now ≡ name_of g client → Stands g self.old s → OnOk result (HasPlayed g (Join client) self.old self.new s (string_bytes out.old) (string_bytes out.new)) }
     {
-        let reply = self.session.apply(0, client, Op::Join)?;
+        let reply = self.call(client, Op::Join)?;
         match reply {
             Reply::Accepted => {
                 self.admit(client)?;
@@ -126,6 +138,68 @@ impl Player {
             other => push_not_joined(out, name, &other)?,
         }
         Ok(())
+    }
+
+    /// `leave NAME`: the session is told at once; the name's client is gone, with its outbox.
+    pub(crate) fn leave(
+        &mut self,
+        name: &str,
+        client: u32,
+        out: &mut String,
+    ) -> Result<(), AllocError>
+        ensures { (g : Game) (s : Stage) → name.now ≡ name_of g client → Stands g self.old s → OnOk result (HasPlayed g (Leave client) self.old self.new s (string_bytes out.old) (string_bytes out.new)) }
+    {
+        let reply = self.call(client, Op::Leave)?;
+        remove(&mut self.clients, client);
+        push_left(out, name, &reply)?;
+        Ok(())
+    }
+
+    /// `rawjoin NAME`: the number joins, and holds no client.
+    pub(crate) fn raw_join(
+        &mut self,
+        name: &str,
+        client: u32,
+        out: &mut String,
+    ) -> Result<(), AllocError>
+        ensures { (g : Game) (s : Stage) → name.now ≡ name_of g client → Stands g self.old s → OnOk result (HasPlayed g (RawJoin client) self.old self.new s (string_bytes out.old) (string_bytes out.new)) }
+    {
+        let reply = self.call(client, Op::Join)?;
+        match reply {
+            Reply::Accepted => {
+                push_raw_joined(out, name, self.session.history().len() as u64)?;
+            }
+            other => push_raw_not_joined(out, name, &other)?,
+        }
+        Ok(())
+    }
+
+    /// `raw NAME RAWOP`: a call of a name that holds no client.
+    pub(crate) fn raw(
+        &mut self,
+        name: &str,
+        client: u32,
+        op: &Op,
+        out: &mut String,
+    ) -> Result<(), AllocError>
+        ensures { (g : Game) (s : Stage) → name.now ≡ name_of g client → Stands g self.old s → OnOk result (HasPlayed g (Raw client op.now) self.old self.new s (string_bytes out.old) (string_bytes out.new)) }
+    {
+        match place_of(&self.clients, client) {
+            Some(_) => push_raw_refused(out, name)?,
+            None => {
+                let reply = self.call(client, op.copy(self.alloc)?)?;
+                push_raw(out, name, &reply)?;
+            }
+        }
+        Ok(())
+    }
+
+    /// One call of the session under the number 0.
+    fn call(&mut self, client: u32, op: Op) -> Result<Reply, AllocError>
+        ensures { (n0 : Parts) → IsSession n0 self.old.session → IfOk result (HasCalled n0 (ByClient client op) self.old self.new) }
+    {
+        let reply = self.session.apply(0, client, op)?;
+        Ok(reply)
     }
 
     /// Makes a client that has just joined.
@@ -161,14 +235,31 @@ impl Player {
         &mut self,
         name: &str,
         client: u32,
-        op: PostedOp,
+        op: &Op,
         out: &mut String,
     ) -> Result<(), AllocError>
-        ensures { (g : Game) (s : Stage) → name.now ≡ name_of g client → Stands g self.old s → OnOk result (HasPlayed g (Post client op) self.old self.new s (string_bytes out.old) (string_bytes out.new)) }
+        ensures { (g : Game) (s : Stage) → name.now ≡ name_of g client → Stands g self.old s → OnOk result (HasPlayed g (Post client op.now) self.old self.new s (string_bytes out.old) (string_bytes out.new)) }
     {
         match place_of(&self.clients, client) {
             None => push_no_client(out, name, "post")?,
-            Some(at) => post_own(&mut self.clients[at], name, op, out)?,
+            Some(at) => post_own(self.alloc, &mut self.clients[at], name, op, out)?,
+        }
+        Ok(())
+    }
+
+    /// `post NAME report CELL`: the client's revision of the cell.
+    pub(crate) fn post_report(
+        &mut self,
+        name: &str,
+        client: u32,
+        cell: CellId,
+        out: &mut String,
+    ) -> Result<(), AllocError>
+        ensures { (g : Game) (s : Stage) → name.now ≡ name_of g client → Stands g self.old s → OnOk result (HasPlayed g (PostReport client cell) self.old self.new s (string_bytes out.old) (string_bytes out.new)) }
+    {
+        match place_of(&self.clients, client) {
+            None => push_no_client(out, name, "post")?,
+            Some(at) => report_own(&mut self.clients[at], name, cell, out)?,
         }
         Ok(())
     }
@@ -247,7 +338,7 @@ impl Player {
     fn ask(&mut self, name: &str, client: u32, op: Op, out: &mut String) -> Result<(), AllocError>
         ensures { (n0 : Parts) → IsSession n0 self.old.session → OnOk result (HasAsked n0 (ByClient client op) name.now self.old self.new (string_bytes out.old) (string_bytes out.new)) }
     {
-        let reply = self.session.apply(0, client, op)?;
+        let reply = self.call(client, op)?;
         push_sent(out, name, &reply)?;
         Ok(())
     }
@@ -426,13 +517,53 @@ fn edit_own(
     Ok(())
 }
 
-/// An operation of the client's own, and what is printed of it.
-fn post_own(own: &mut Client, name: &str, op: PostedOp, out: &mut String) -> Result<(), AllocError>
-    ensures posted { (n0 : Parts) (m : Holder) → Mirrors n0 own.old m → OnOk result (Mirrors n0 own.new (with_message m (op_of op))) }
+/// Puts the operation into the client's outbox, where it may be posted.
+fn post_own(
+    alloc: Global,
+    own: &mut Client,
+    name: &str,
+    op: &Op,
+    out: &mut String,
+) -> Result<(), AllocError>
+    ensures { (n0 : Parts) (m : Holder) → Mirrors n0 own.old m → OnOk result (HasPosted n0 name.now op.now own.new m (string_bytes out.old) (string_bytes out.new)) }
+{
+    if !op.is_postable() {
+        return Ok(());
+    }
+    put_own(alloc, own, name, op, out)
+}
+
+/// Puts an operation that may be posted into the client's outbox.
+fn put_own(
+    alloc: Global,
+    own: &mut Client,
+    name: &str,
+    op: &Op,
+    out: &mut String,
+) -> Result<(), AllocError>
+    requires { IsPostable op.now }
+    ensures posted { (n0 : Parts) (m : Holder) → Mirrors n0 own.old m → OnOk result (Mirrors n0 own.new (with_message m op.now)) }
     ensures printed { OnOk result (string_bytes out.new ≡ string_bytes out.old ++ as_text (posted_words name.now ∷ [])) }
 {
-    own.post(op_of(op))?;
+    own.post(op.copy(alloc)?)?;
     push_posted(out, name)?;
+    Ok(())
+}
+
+/// Puts a report of the client's revision of a cell into its outbox.
+fn report_own(
+    own: &mut Client,
+    name: &str,
+    cell: CellId,
+    out: &mut String,
+) -> Result<(), AllocError>
+    ensures { (n0 : Parts) (m : Holder) → Mirrors n0 own.old m → OnOk result (HasReported n0 name.now cell own.new m (string_bytes out.old) (string_bytes out.new)) }
+{
+    match own.post_report(cell) {
+        Ok(()) => push_posted(out, name)?,
+        Err(PostError::NoCell) => push_not_posted(out, name)?,
+        Err(PostError::OutOfMemory) => return Err(AllocError),
+    }
     Ok(())
 }
 
@@ -444,22 +575,12 @@ fn receive_own(
     name: &str,
     out: &mut String,
 ) -> Result<(), AllocError>
-    ensures { (g : Game) (m : Holder) → Legal g.opening history.now → IsHonest g.opening history.now m → Mirrors g.opening own.old m → OnOk result (HasReceivedSome g count history.now m own.new name.now (string_bytes out.old) (string_bytes out.new)) }
+    ensures { (g : Game) (m : Holder) → IsLawful g.opening history.now → IsHonest g.opening history.now m → Mirrors g.opening own.old m → OnOk result (HasReceivedSome g count history.now m own.new name.now (string_bytes out.old) (string_bytes out.new)) }
 {
     let unseen = (history.len() as u64).saturating_sub(own.cursor());
     deliver(history, own, how_many(count, unseen))?;
     push_received(out, name, own.cursor())?;
     Ok(())
-}
-
-/// The call that a posted operation makes.
-fn op_of(op: PostedOp) -> Op
-    ensures op { result ≡ op_of op }
-    ensures postable { IsPostable result }
-{
-    match op {
-        PostedOp::Queue { cell } => Op::Queue { cell },
-    }
 }
 
 /// So many, or all where there are fewer.

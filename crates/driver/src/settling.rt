@@ -1,7 +1,7 @@
 //! Evaluating what is queued, on the player's own thread.
 ghost use Rattle.std.specs.Prelude.{OnOk};
 ghost use Rattle.notebook.specs.declared.parts.Parts.{Parts};
-ghost use Rattle.session_core.specs.Session.{IsSession, IsOut, IsHandedOut};
+ghost use Rattle.session_core.specs.Session.{IsSession, IsHandedOut};
 ghost use Rattle.driver.specs.Settling.{HasGoneOn, HasResponded, HasSettled};
 
 use ex_machine::run;
@@ -32,7 +32,10 @@ pub(crate) fn settle<R: Wait>(
 fn evaluate(alloc: Global, session: &mut Session, by: u32) -> Result<(), AllocError>
     ensures { (n0 : Parts) → IsSession n0 session.old → OnOk result (HasGoneOn n0 by session.old session.new) }
 {
-    match session.start(by)? {
+    let Some(lane) = session.ready_lane() else {
+        return Ok(());
+    };
+    match session.start(by, lane)? {
         None => Ok(()),
         Some(job) => answer(alloc, session, by, job),
     }
@@ -40,7 +43,7 @@ fn evaluate(alloc: Global, session: &mut Session, by: u32) -> Result<(), AllocEr
 
 /// Evaluates a job that was handed out, and answers it.
 fn answer(alloc: Global, session: &mut Session, by: u32, job: PlainJob) -> Result<(), AllocError>
-    ensures { (n0 : Parts) → IsSession n0 session.old → IsOut n0 session.old by job.eval → IsHandedOut n0 session.old job → OnOk result (HasResponded n0 by job.eval session.old session.new) }
+    ensures { (n0 : Parts) → IsSession n0 session.old → IsHandedOut n0 session.old by job → OnOk result (HasResponded n0 by job.eval session.old session.new) }
 {
     let ran = run(alloc, job.source.as_str(), &job.base, STEPS)?;
     session.respond(by, job.eval, ran)?;

@@ -2,7 +2,7 @@
 ghost use Rattle.std.specs.Prelude.{◌≡◌, ◌++◌, OnOk, string_bytes};
 ghost use Rattle.notebook.specs.declared.parts.Parts.{Parts as PartsValue};
 ghost use Rattle.notebook.specs.Flow.{section_lane};
-ghost use Rattle.session_ops.specs.Work.{Work};
+ghost use Rattle.lanes.specs.declared.work.Work.{Work};
 ghost use Rattle.transcript.specs.Texts.{as_text, ended_line};
 ghost use Rattle.driver.specs.Statuses.{Tells, HasPath, HasPathIfCode, AllHavePaths, AllSectionsHavePaths, cell_line, line_of_kind, code_lines, section_code_lines, setup_line, status_lines};
 

@@ -132,7 +132,7 @@ fn faults_are_told(rt: HostRuntime) -> Result<(), Fail> {
         &rt,
         rt.alloc(),
         &["b", "s"],
-        &[BOOK, "join ann\nleave ann\n"],
+        &[BOOK, "join ann\nfly ann\n"],
         &[],
     )?;
     assert_eq!(rt; outcome.status, 5);
@@ -179,7 +179,7 @@ fn other_words_are_refused(rt: HostRuntime) -> Result<(), Fail> {
 }
 
 /// Scripts of several clients, with the book, and with what is printed.
-const SEVERAL: [(&str, &str, &str); 6] = [
+const SEVERAL: [(&str, &str, &str); 10] = [
     // One letter is taken away where another puts one: what was sent first goes first.
     (
         "# T\n\n## S\n\nabcd\n",
@@ -209,6 +209,30 @@ const SEVERAL: [(&str, &str, &str); 6] = [
         "",
         "send bob 1\njoin bob\nsend bob all\njoin bob\n",
         "bob send: refused NotJoined\nbob joined at 1\nbob sent: nothing\nbob join: refused AlreadyJoined\nend\nnotebook \"Untitled notebook\"\n",
+    ),
+    // A number that joins without a client sends deltas on bases that are too new and too old.
+    (
+        "# T\n\n## S\n\nab\n",
+        "join ann\nrawjoin eve\nraw eve delta 1 5 [\"Z\"]\nraw eve delta 1 0 [\"Z\"]\nraw eve delta 1 0 [\"Q\"]\nrecv ann all\npost ann report 1\nsend ann 1\nraw eve delta 1 1 [\"R\"]\n",
+        "ann joined at 1\neve rawjoined at 2\neve raw: refused TooNew 0\neve raw: accepted rev 1\neve raw: accepted rev 2\nann at 5\nann post: ok\nann sent: ok\neve raw: refused TooOld 2\nend\nnotebook \"T\"\nsection 1 \"S\"\ncell 1 markdown rev 2 \"ZQab\"\n",
+    ),
+    // A cell is deleted under an edit, and comes back as another.
+    (
+        "# T\n\n## S\n\nab\n",
+        "join ann\njoin bob\npost bob delete_cell 1\nsend bob 1\nedit ann 1 [\"X\"]\nsend ann 1\nrecv ann all\npending ann 1\npost ann restore_cell 1 1 0\nsync\nshow ann\n",
+        "ann joined at 1\nbob joined at 2\nbob post: ok\nbob sent: ok\nann edit 1: ok\nann sent: refused NoCell\nann at 4\nann pending 1: refused NoCell\nann post: ok\nann sent: cell 2\nsync at 5\nnotebook \"T\"\nsection 1 \"S\"\ncell 2 markdown rev 0 \"ab\"\nend\nnotebook \"T\"\nsection 1 \"S\"\ncell 2 markdown rev 0 \"ab\"\n",
+    ),
+    // Who has left may join again, as a new client.
+    (
+        "",
+        "join ann\njoin bob\nleave bob\njoin bob\nshow bob\n",
+        "ann joined at 1\nbob joined at 2\nbob leave: ok\nbob joined at 4\nnotebook \"Untitled notebook\"\nend\nnotebook \"Untitled notebook\"\n",
+    ),
+    // A name that holds a client makes no raw calls.
+    (
+        "",
+        "join ann\nrawjoin ann\nraw ann set_name \"Q\"\n",
+        "ann joined at 1\nann rawjoin: refused AlreadyJoined\nann raw: refused HasClient\nend\nnotebook \"Untitled notebook\"\n",
     ),
     // An edit by the client's own text, whose astral character takes two units.
     (

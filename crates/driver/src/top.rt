@@ -1,6 +1,5 @@
 //! The top call: words, shelf and sink in, the status out.
 ghost use Rattle.std.specs.Prelude.{◌≡◌, ◌≤◌, List, ℕ, Option, map, IfSome, IfOk, string_bytes};
-ghost use Rattle.notebook.specs.Flow.{IsUnbranched};
 ghost use Rattle.driver.specs.Program.{IsPlay, IsAnswer, status_of};
 ghost use Rattle.driver.specs.Answers.{BytesAreBook, BytesAreScript, IsBookAnswer, IsScriptAnswer, WordsAnswer, HasReadBook, outcome_of, ended_with};
 
@@ -98,7 +97,6 @@ fn run_script<R: Wait, S: Shelf, K: Sink>(
     shelf: &mut S,
     sink: &mut K,
 ) -> Outcome
-    requires { IsUnbranched book.notebook }
     ensures status { result.status ≡ status_of result.fault }
     ensures answer { (words : List (List ℕ)) → HasReadBook words (S.held shelf.old) script.now book → IsAnswer words (S.held shelf.old) (S.faults shelf.old) (S.faults shelf.new) (K.faults sink.old) (K.faults sink.new) (K.written sink.old) (K.written sink.new) result.report result.fault }
 {
@@ -130,7 +128,6 @@ fn finished(played: Played) -> Outcome
 /// The book of a name.
 fn read_book<S: Shelf>(alloc: Global, name: &str, shelf: &mut S) -> Result<Read, RunFault>
     ensures answer { IsBookAnswer (S.held shelf.old) name.now (S.faults shelf.old) (S.faults shelf.new) result }
-    ensures unbranched { IfOk result (λ r. IsUnbranched r.notebook) }
     ensures same { S.held shelf.new ≡ S.held shelf.old }
     ensures counts { S.faults shelf.old ≤ S.faults shelf.new }
 {
@@ -155,7 +152,6 @@ fn read_lines<S: Shelf>(alloc: Global, name: &str, shelf: &mut S) -> Result<Scri
 /// The book that bytes are.
 fn notebook_of(alloc: Global, bytes: &[u8]) -> Result<Read, RunFault>
     ensures answer { BytesAreBook bytes.now result }
-    ensures unbranched { IfOk result (λ r. IsUnbranched r.notebook) }
 {
     match read(alloc, bytes) {
         Ok(book) => Ok(book),

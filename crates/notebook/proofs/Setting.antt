@@ -41,7 +41,7 @@ cell-set cs id i source d p after same =
     rw (parts, place, left, right, front, back, cell) refl
 
 -- no later cell has the number
-home-back : (n : Parts) (id i j : ℕ) (p : IsPlace n.sections id i j) → IsNotebook n → found id (p.inside.back ++ (flat_map cells_of p.back ++ n.bin)) ≡ None
+pub home-back : (n : Parts) (id i j : ℕ) (p : IsPlace n.sections id i j) → IsNotebook n → found id (p.inside.back ++ (flat_map cells_of p.back ++ n.bin)) ≡ None
 home-back n id i j p h =
     let here : flat_map cells_of n.sections ≡ flat_map cells_of p.front ++ (p.home.cells ++ flat_map cells_of p.back) =
     ap (λ ss. flat_map cells_of ss) p.parts ∙ flat_map-append cells_of p.front (p.home ∷ p.back) in

@@ -107,15 +107,15 @@ kinds-resourced : (f : Cell → List ℕ) (cs more : List Cell) → AllByRecursi
 kinds-resourced f [] more h = h
 kinds-resourced f (c ∷ cs) more h = (h.0, kinds-resourced f cs more h.1)
 
-length-resourced : (f : Cell → List ℕ) (cs : List Cell) → length (resourced_cells f cs) ≡ length cs
+pub length-resourced : (f : Cell → List ℕ) (cs : List Cell) → length (resourced_cells f cs) ≡ length cs
 length-resourced f [] = refl
 length-resourced f (c ∷ cs) = ap (λ n. suc n) (length-resourced f cs)
 
-length-resourced_sections : (f : Cell → List ℕ) (ss : List Section) → length (resourced_sections f ss) ≡ length ss
+pub length-resourced_sections : (f : Cell → List ℕ) (ss : List Section) → length (resourced_sections f ss) ≡ length ss
 length-resourced_sections f [] = refl
 length-resourced_sections f (s ∷ ss) = ap (λ n. suc n) (length-resourced_sections f ss)
 
-code_count-resourced : (f : Cell → List ℕ) (cs : List Cell) → code_count (resourced_cells f cs) ≡ code_count cs
+pub code_count-resourced : (f : Cell → List ℕ) (cs : List Cell) → code_count (resourced_cells f cs) ≡ code_count cs
 code_count-resourced f [] = refl
 code_count-resourced f (c ∷ cs) = ap (λ n. code_weight c.kind + n) (code_count-resourced f cs)
 

@@ -5,6 +5,7 @@ use Rattle.std.specs.List.{flat_map, list_any, AllByRecursion}
 use Rattle.notebook.specs.declared.parts.Cell.{Cell}
 use Rattle.notebook.specs.declared.parts.Section.{Section}
 use Rattle.notebook.specs.declared.parts.Parts.{Parts}
+use Rattle.notebook.specs.declared.parts.Passed.{Passed}
 use Rattle.notebook.specs.declared.parts.Kind.{Kind}
 use Rattle.notebook.specs.declared.parts.Kind.TheVariants.{Setup, Code, Markdown}
 use Rattle.notebook.specs.declared.states.Lane.{Lane}
@@ -95,10 +96,6 @@ abbrev pub flow : Parts → ℕ → Option (List Cell)
 flow n id = option_map (flow_in n id) (lane_of n id)
 
 -- a cell that an evaluation passes, with the source that the cell has
-pub record Passed : Type 0 where
-  pub cell : ℕ
-  pub source : List ℕ
-
 abbrev pub passed : Cell → Passed
 passed c = record { cell = c.id; source = c.source }
 

@@ -1,5 +1,9 @@
+pub mod Before
 pub mod Book
+pub mod Change
 pub mod Flow
+pub mod Lists
+pub mod Living
 pub mod Places
 pub mod Rules
 pub mod Seen

@@ -1,7 +1,7 @@
 -- What a cell's last evaluation is worth, and what is asked for it.
-use Rattle.std.specs.Prelude.{ℕ, ◌==◌, ◌&&◌, Bool, true, false, if◌then◌else◌, List, Option, Some, None, nat_eq}
+use Rattle.std.specs.Prelude.{◌==◌, ◌&&◌, Bool, true, false, if◌then◌else◌, List, Option, Some, None, nat_eq}
 use Rattle.std.specs.Cmp.Lexicographic.{pointwise}
-use Rattle.notebook.specs.Flow.{Passed}
+use Rattle.notebook.specs.declared.parts.Passed.{Passed}
 use Rattle.notebook.specs.declared.states.Status.{Status}
 use Rattle.notebook.specs.declared.states.Status.TheVariants.{Ready, Queued, Evaluating}
 use Rattle.notebook.specs.declared.states.Validity.{Validity}

@@ -1,14 +1,19 @@
 //! A notebook that keeps its rules.
-ghost use Rattle.std.specs.Prelude.{◌≡◌, ◌↔◌, IsTrue, IfOk, map};
+ghost use Rattle.std.specs.Prelude.{◌≡◌, ◌↔◌, ◌<◌, ◌^◌, IsTrue, IfOk, IfErr, OnErr, MatchOption, None, map};
 ghost use Rattle.std.specs.Bool.{OnFalse};
 ghost use Rattle.std.specs.Option.{option_copied, option_map};
 ghost use Rattle.notebook.specs.Book.{cells, found, IsLive, with_source, untitled};
 ghost use Rattle.notebook.specs.Rules.{IsNotebook, cell_number};
+ghost use Rattle.notebook.specs.Change.{Makes, Refuses, change};
 ghost use Rattle.notebook.specs.Flow.{lane_of, lane_cells, flow};
 ghost use Rattle.notebook.specs.Seen.{seen};
+ghost use Rattle.notebook.specs.Before.{IsBefore};
 ghost use Rattle.notebook.specs.declared.states.PathError.TheVariants.{NoCell};
 
+use crate::before::{Before, standing};
 use crate::cells::{place_of, set_source};
+use crate::change::{Change, Changed, NoteError};
+use crate::edits::make;
 use crate::flow::{lane_among, numbers_up_to, push_branch, push_main};
 use crate::parts::{Cell, CellId, Kind, Parts};
 use crate::states::{Lane, PathError};
@@ -106,6 +111,18 @@ impl Notebook {
         Some(&sections[place.section].cells.as_slice()[place.cell])
     }
 
+    /// Makes one change of the structure, or tells the first cause that refuses it; then, and where
+    /// memory ran out, the notebook is as it was.
+    pub fn change(&mut self, alloc: Global, asked: Change) -> Result<Changed, NoteError>
+        requires cells { self.old.next_cell < 2 ^ 63 }
+        requires sections { self.old.next_section < 2 ^ 63 }
+        ensures made { IfOk result (λ made. change self.old asked ≡ Makes self.new made) }
+        ensures cause { IfErr result (Refuses self.old asked) }
+        ensures refused { OnErr result (self.new ≡ self.old) }
+    {
+        make(&mut self.parts, alloc, asked)
+    }
+
     /// Gives the live cell of the number the source; everything else stays. It answers false exactly
     /// where no live cell has the number, and then nothing changes. It takes no memory.
     pub fn set_source(&mut self, cell: CellId, source: Text) -> bool
@@ -125,6 +142,14 @@ impl Notebook {
             return Some(Lane::Main);
         }
         lane_among(self.parts.sections.as_slice(), cell)
+    }
+
+    /// The lane of the cell, the cell, and what stands before it in its flow; `None` exactly where no
+    /// live setup or code cell has the number. It takes no memory.
+    pub fn before(&self, cell: CellId) -> Option<Before<'_>>
+        ensures { MatchOption result (lane_of self.now cell ≡ None) (IsBefore self.now cell) }
+    {
+        standing(&self.parts, cell)
     }
 
     /// What is evaluated one after the other in a lane: the setup cell and then code cells. For a

@@ -17,7 +17,7 @@ pub struct Place {
 }
 
 /// The place of the first of some cells that has the number.
-fn place_in(cells: &[Cell], id: CellId) -> Option<usize>
+pub fn place_in(cells: &[Cell], id: CellId) -> Option<usize>
     ensures { MatchOption result (found id cells.now ≡ None) (IsCellAt cells.now id) }
 {
     for (at, cell) in cells.iter().enumerate() {

@@ -38,7 +38,7 @@ fn section_of(sections: &[Section], id: SectionId) -> Option<&Section>
 }
 
 /// The sections up to and with the first that has the number; all of them where none has.
-fn sections_up_to(sections: &[Section], id: SectionId) -> &[Section]
+pub fn sections_up_to(sections: &[Section], id: SectionId) -> &[Section]
     ensures { result.now ≡ up_to (is_section id) sections.now }
 {
     for (at, section) in sections.iter().enumerate() {

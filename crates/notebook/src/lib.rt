@@ -4,12 +4,21 @@
 //! (numbers, kinds, parents, limits), and contracts see it as the record of its parts.
 #![tactic(auto)]
 
+mod before;
 mod book;
 mod cells;
+mod change;
+mod edits;
 mod flow;
+mod lists;
 mod parts;
+mod sections;
 mod states;
+#[cfg(test)]
+mod tests;
 
+pub use before::{Before, Steps};
 pub use book::Notebook;
-pub use parts::{Cell, CellId, Kind, Parts, Saved, Section, SectionId};
+pub use change::{CellKind, Change, Changed, NoteError};
+pub use parts::{Cell, CellId, Kind, Parts, Passed, Saved, Section, SectionId};
 pub use states::{Lane, PathError, Status, Validity};

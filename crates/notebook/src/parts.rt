@@ -76,6 +76,25 @@ impl Cell {
     }
 }
 
+/// A cell that an evaluation passes, with the source that the cell had.
+#[derive(Debug, Drop)]
+pub struct Passed {
+    pub cell: CellId,
+    pub source: Text,
+}
+
+impl Passed {
+    /// An equal pair.
+    pub fn copy(&self) -> Result<Passed, AllocError>
+        ensures { IfOk result (λ p. p ≡ self.now) }
+    {
+        Ok(Passed {
+            cell: self.cell,
+            source: self.source.copy()?,
+        })
+    }
+}
+
 /// A section of cells. One with a parent is a branch of that earlier section.
 #[derive(Debug, Drop)]
 pub struct Section {

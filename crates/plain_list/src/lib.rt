@@ -2,8 +2,9 @@
 //! hold one are plain data: a copy equals what it copies, and a definition can compute one.
 #![tactic(auto)]
 
-ghost use Rattle.std.specs.Prelude.{◌≡◌, [], ◌∷◌, ◌++◌, ◌<◌, ◌↔◌, length, slice_get, IsTrue, IfOk, OnOk, OnErr};
-ghost use Rattle.std.specs.Fn.{FnReturnsAt};
+ghost use Rattle.std.specs.Prelude.{◌≡◌, [], ◌∷◌, ◌++◌, ◌<◌, ◌↔◌, length, take, remove, slice_get, Some, IsTrue, IfOk, OnOk, OnErr};
+ghost use Rattle.std.specs.Fn.{FnReturnsAt, CalledAt};
+ghost use Rattle.std.specs.List.Retain.{IsFiltered};
 
 use std::alloc::{AllocError, Global};
 use std::marker::Model;
@@ -84,6 +85,17 @@ impl<T> Items<T> {
     }
 }
 
+impl<T> Items<T> {
+    /// Takes the element at a place, counted from 0, out; the later ones move down. Takes no memory.
+    pub fn remove(&mut self, at: usize) -> T
+        requires { at < length self.old }
+        ensures value { slice_get self.old at ≡ Some result }
+        ensures rest { self.new ≡ remove self.old at }
+    {
+        self.items.remove(at)
+    }
+}
+
 impl<T: Drop> Items<T> {
     /// An equal list, of what `copy` makes of each element: it answers an equal one or want of
     /// memory.
@@ -111,6 +123,22 @@ impl<T: Drop> Items<T> {
         self.items.push(item)?;
         Ok(())
     }
+
+    /// Keeps the elements for which `keep` answers true, in order, and drops the others. Takes no
+    /// memory.
+    pub fn retain<F: FnMut(&T) -> bool>(&mut self, keep: F)
+        requires { F.IsAlwaysCallable keep }
+        ensures { IsFiltered (CalledAt F.FnMut) keep self.old self.new }
+    {
+        self.items.retain(keep);
+    }
+
+    /// Drops the elements after the first `len`. Takes no memory.
+    pub fn truncate(&mut self, len: usize)
+        ensures { self.new ≡ take len self.old }
+    {
+        self.items.truncate(len);
+    }
 }
 
 #[cfg(test)]
@@ -134,6 +162,12 @@ mod tests {
         let copy = list.copied_by(same)?;
         assert_eq!(rt; copy.as_slice(), [7, 9].as_slice());
         assert_eq!(rt; Items::from_vec(copy.into_vec()).len(), 2);
+        list.push(8)?;
+        list.retain(|x| *x != 9);
+        assert_eq!(rt; list.as_slice(), [7, 8].as_slice());
+        assert_eq!(rt; list.remove(0), 7);
+        list.truncate(1);
+        assert_eq!(rt; list.as_slice(), [8].as_slice());
         Ok(())
     }
 }

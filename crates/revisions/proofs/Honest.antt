@@ -7,7 +7,7 @@ use Rattle.delta.specs.declared.Step.{Step}
 use Rattle.delta.specs.Steps.{reach_of}
 use Rattle.delta.specs.Moves.{FitsText, over}
 use Rattle.notebook.specs.declared.parts.Cell.{Cell}
-use Rattle.session_ops.specs.Work.{is_in}
+use Rattle.session_ops.specs.Numbers.{is_in}
 use Rattle.session_ops.specs.declared.entry.Reply.TheVariants.{Applied}
 use Rattle.session_ops.specs.State.{State, Known, first_source, taken_by, revision, floor, least_floor, least_among, misfit, judged_by, delta_reply}
 use Rattle.revisions.specs.Kept.{made_by, LeadsTo}

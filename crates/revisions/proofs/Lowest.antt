@@ -4,7 +4,7 @@ use Rattle.std.specs.Prelude.{filter, not, ◌&&◌, IsSome}
 use Rattle.std.proofs.lemmas.Bool.Decides.{eqb_tells}
 use Rattle.notebook.specs.declared.parts.Cell.{Cell}
 use Rattle.notebook.specs.Book.{found}
-use Rattle.session_ops.specs.Work.{is_in, is_other}
+use Rattle.session_ops.specs.Numbers.{is_in, is_other}
 use Rattle.session_ops.specs.State.{State, Known, floor, least_floor, least_among, revision, knows_all}
 use Rattle.revisions.specs.declared.floors.Floor.{Floor}
 use Rattle.revisions.specs.Floors.{floors_of, at_zero, lowest, raised_one, raised, is_of_other}

@@ -13,7 +13,7 @@ use Rattle.session_ops.specs.declared.entry.Op.TheVariants.{Join, Delta}
 use Rattle.session_ops.specs.declared.entry.Call.TheVariants.{Client}
 use Rattle.session_ops.specs.declared.entry.Reply.TheVariants.{Applied, Refused, Accepted as IsAccepted}
 use Rattle.session_ops.specs.declared.entry.Refusal.TheVariants as refusal
-use Rattle.session_ops.specs.Work.{is_in}
+use Rattle.session_ops.specs.Numbers.{is_in}
 use Rattle.session_ops.specs.State.{State, after_call, first_source, taken_by, revision, floor, least, misfit, judged_by, delta_reply}
 use Rattle.revisions.specs.declared.errors.RevError.{RevError}
 use Rattle.revisions.specs.declared.errors.RevError.TheVariants.{TooNew, TooOld, PastEnd, SplitsPair, OutOfMemory}

@@ -9,7 +9,7 @@ use Rattle.session_ops.specs.declared.entry.Op.TheVariants.{Delta}
 use Rattle.session_ops.specs.declared.entry.Call.TheVariants.{Client}
 use Rattle.session_ops.specs.declared.entry.Reply.TheVariants.{Applied, Refused}
 use Rattle.session_ops.specs.declared.entry.Refusal.TheVariants as refusal
-use Rattle.session_ops.specs.Work.{is_other}
+use Rattle.session_ops.specs.Numbers.{is_other}
 use Rattle.session_ops.specs.State.{State, first_source, taken_by, revision, floor, least, delta_reply, after_call}
 use Rattle.revisions.specs.declared.errors.RevError.{RevError}
 use Rattle.revisions.specs.declared.errors.RevError.TheVariants.{TooNew, TooOld, PastEnd, SplitsPair, OutOfMemory}
@@ -46,7 +46,7 @@ pub record StandsFor (s : State) (cell : ℕ) (text : List ℕ) (log : SourceLog
 abbrev pub knowing : ℕ → ℕ → ℕ → State → State
 knowing client cell rev s = record s { known = s.known ++ record { client = client; cell = cell; rev = rev } ∷ [] }
 
--- a client has left
+-- a client counts no more among those who have joined
 abbrev pub without : ℕ → State → State
 without client s = record s { joined = filter (is_other client) s.joined }
 

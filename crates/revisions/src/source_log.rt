@@ -7,12 +7,12 @@ ghost use Rattle.notebook.specs.Book.{cells, found};
 ghost use Rattle.session_ops.specs.declared.entry.Op.TheVariants.{Join};
 ghost use Rattle.session_ops.specs.declared.entry.Call.TheVariants.{Client};
 ghost use Rattle.session_ops.specs.declared.entry.Reply.TheVariants.{Accepted as IsAccepted};
-ghost use Rattle.session_ops.specs.Work.{is_in};
-ghost use Rattle.session_ops.specs.State.{State, first_source, taken_by, revision, floor, least, after_call};
+ghost use Rattle.session_ops.specs.Numbers.{is_in};
+ghost use Rattle.session_ops.specs.State.{State, first_source, taken_by, revision, floor, least, once_left, after_call};
 ghost use Rattle.revisions.specs.declared.floors.Floor.{Floor};
 ghost use Rattle.revisions.specs.Floors.{lowest, raised};
 ghost use Rattle.revisions.specs.Moved.{IsMove};
-ghost use Rattle.revisions.specs.Stands.{Holds, IsLog, StandsFor, IsMoved, IsTaken, IsCause, IsRefused, IsReportCause, knowing, without};
+ghost use Rattle.revisions.specs.Stands.{Holds, IsLog, StandsFor, IsMoved, IsTaken, IsCause, IsRefused, IsReportCause, knowing};
 
 use crate::errors::{ReportError, RevError};
 use crate::floors::{Floor, floors_at_zero, lowest, raise, remove_floor};
@@ -200,9 +200,11 @@ impl SourceLog {
         Ok(())
     }
 
-    /// Notes that a client has left: its floor goes. Takes no memory.
+    /// Notes that a client has left: its floor goes. So a client that has just joined hasn't joined
+    /// after all. Takes no memory.
     pub fn left(&mut self, client: u32)
-        ensures { (s : State) (cell : ℕ) (text : List ℕ) → StandsFor s cell text self.old → StandsFor (without client s) cell text self.new }
+        ensures gone { (s : State) (cell : ℕ) (text : List ℕ) → StandsFor s cell text self.old → StandsFor (once_left client s) cell text self.new }
+        ensures undone { (s : State) (cell : ℕ) (text : List ℕ) → StandsFor (after_call s (Client client Join) IsAccepted) cell text self.old → is_in client s.joined ≡ false → IsSome (found cell (cells s.book)) → StandsFor s cell text self.new }
     {
         remove_floor(&mut self.floors, client);
         self.let_go();

@@ -8,7 +8,7 @@ use Rattle.std.proofs.lemmas.Option.{slice_get_within}
 use Rattle.std.proofs.lemmas.List.{map-append}
 use Rattle.std.proofs.lemmas.List.Elements.{filter-append}
 use Rattle.script.specs.declared.line.ScriptLine.{ScriptLine}
-use Rattle.script.specs.declared.line.ScriptLine.TheVariants.{Join, Edit, Post, Send, Recv, Sync, Show, Pending, Settle, Cells}
+use Rattle.script.specs.declared.line.ScriptLine.TheVariants.{Join, Leave, Edit, Post, PostReport, Send, Recv, Sync, Show, Pending, Settle, Cells, RawJoin, Raw}
 use Rattle.script.specs.declared.content.Content.{Content}
 use Rattle.script.specs.declared.error.Refusal.{Refusal}
 use Rattle.script.specs.declared.error.Refusal.TheVariants.{Fault, OutOfMemory}
@@ -122,8 +122,10 @@ has_client word = not (bytes_eq word (codes "sync") || bytes_eq word (codes "set
 
 client-by-word : (line : ScriptLine) → is_some (client_of line) ≡ has_client (word_of line)
 client-by-word (Join client) = refl
+client-by-word (Leave client) = refl
 client-by-word (Edit client cell delta) = refl
 client-by-word (Post client op) = refl
+client-by-word (PostReport client cell) = refl
 client-by-word (Send client count) = refl
 client-by-word (Recv client count) = refl
 client-by-word (Sync) = refl
@@ -131,6 +133,8 @@ client-by-word (Show client) = refl
 client-by-word (Pending client cell) = refl
 client-by-word (Settle) = refl
 client-by-word (Cells) = refl
+client-by-word (RawJoin client) = refl
+client-by-word (Raw client op) = refl
 
 -- two lists have the same names at the first places
 abbrev Agree : List (List ℕ) → List (List ℕ) → ℕ → Type 0

@@ -5,5 +5,8 @@ pub mod Lines
 pub mod Name
 pub mod Next
 pub mod Number
+pub mod Ops
+pub mod Posts
 pub mod Script
+pub mod Text
 pub mod Words

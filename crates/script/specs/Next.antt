@@ -36,9 +36,9 @@ pub record IsClientLine (word : List ℕ) (number : ℕ) (rest : List ℕ) (line
   pub client : client_of line ≡ Some number
   pub end_is : IsEnd rest line
 
--- an answer is the line for which P holds, or tells that there is none
-abbrev pub Tells : (ScriptLine → Type 0) → Option ScriptLine → Type 0
-Tells P answer = MatchOption answer ((line : ScriptLine) → ¬ (P line)) P
+-- an answer is what P holds of, or tells that there is none
+abbrev pub Tells : {A : Type 0} → (A → Type 0) → Option A → Type 0
+Tells {A} P answer = MatchOption answer ((a : A) → ¬ (P a)) P
 
 -- what follows a line's word after lines with these names: its client's name, where it has one, and its end
 abbrev pub IsNextRest : List (List ℕ) → List ℕ → Option ℕ → ScriptLine → Type 0

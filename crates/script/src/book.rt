@@ -2,6 +2,7 @@
 ghost use Rattle.std.specs.Prelude.{◌≡◌, MatchResult, IfOk};
 ghost use Rattle.std.specs.Str.{chars};
 ghost use Rattle.script.specs.Clients.{IsNumbered};
+ghost use Rattle.script.specs.Posts.{AllPostable};
 ghost use Rattle.script.specs.Words.{first_word, after_word};
 ghost use Rattle.script.specs.Next.{no_content, IsNext, IsUnfit, names_with};
 
@@ -14,7 +15,8 @@ use std::alloc::{AllocError, Global};
 use std::marker::Model;
 use utf16_text::Text;
 
-/// A script whose clients are numbered from 0 in the order in which their names first stand.
+/// A script whose clients are numbered from 0 in the order in which their names first stand, and
+/// which posts only operations that may be posted as they are.
 #[derive(Debug, Drop)]
 pub struct Script {
     content: Content,
@@ -23,12 +25,13 @@ pub struct Script {
 impl Model for Script {
     ghost use Rattle.script.specs.declared.content.Content.{Content};
     ghost use Rattle.script.specs.Clients.{IsNumbered};
+    ghost use Rattle.script.specs.Posts.{AllPostable};
 
     ghost Value = { Content };
 
     ghost view = { λ s. s.content };
 
-    ghost invariant = { λ s. IsNumbered s.content };
+    ghost invariant = { λ s. IsNumbered s.content × AllPostable s.content.lines };
 }
 
 impl Script {
@@ -48,6 +51,7 @@ impl Script {
     pub fn content(&self) -> &Content
         ensures value { result.now ≡ self.now }
         ensures clients { IsNumbered result.now }
+        ensures posts { AllPostable result.now.lines }
     {
         &self.content
     }

@@ -11,7 +11,7 @@ use thiserror::Error;
 pub enum LineFault {
     /// The line isn't UTF-8, as one with the byte 255; a comment isn't spared.
     NotUtf8,
-    /// The line isn't one of the lines that are played so far, in its form, as `leave ann` and
+    /// The line isn't one of the lines that are played so far, in its form, as `quiet` and
     /// `send ann`, or has a name that would be the 65th.
     Unbuilt,
 }

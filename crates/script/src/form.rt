@@ -1,14 +1,13 @@
 //! Texts as lines of a script.
-ghost use Rattle.std.specs.Prelude.{◌≢◌, ℕ, ◌≤◌, length, codes, IfOk, MatchOption};
-ghost use Rattle.script.specs.declared.line.PostedOp.{PostedOp as PostedOpValue};
-ghost use Rattle.script.specs.declared.line.Count.{Count as CountValue};
-ghost use Rattle.script.specs.Line.{IsOp, IsCount};
+ghost use Rattle.std.specs.Prelude.{◌≡◌, ◌≢◌, ◌≤◌, [], length, codes, IfOk, MatchOption};
+ghost use Rattle.script.specs.Line.{IsCount};
 ghost use Rattle.script.specs.Clients.{AreNames, Differ};
 ghost use Rattle.script.specs.Next.{Tells, IsNextLine, IsPlainLine, IsClientLine};
 
 use crate::delta_text::delta_of;
-use crate::line::{Count, PostedOp, ScriptLine};
+use crate::line::{Count, ScriptLine};
 use crate::names::number_in;
+use crate::ops::operation_of;
 use crate::words::{number_of, split_word};
 use std::alloc::{AllocError, Global};
 use utf16_text::Text;
@@ -63,40 +62,50 @@ fn client_line(
 ) -> Result<Option<ScriptLine>, AllocError>
     ensures { IfOk result (Tells (IsClientLine word.now client rest.now)) }
 {
-    if word == "edit" {
-        return edit_line(alloc, client, rest);
+    match word {
+        "join" => Ok(alone(ScriptLine::Join { client }, rest)),
+        "leave" => Ok(alone(ScriptLine::Leave { client }, rest)),
+        "edit" => edit_line(alloc, client, rest),
+        "post" => post_line(alloc, client, rest),
+        "send" => Ok(send_line(client, rest)),
+        "recv" => Ok(recv_line(client, rest)),
+        "show" => Ok(alone(ScriptLine::Show { client }, rest)),
+        "pending" => Ok(pending_line(client, rest)),
+        "rawjoin" => Ok(alone(ScriptLine::RawJoin { client }, rest)),
+        "raw" => raw_line(alloc, client, rest),
+        _ => Ok(None),
     }
-    Ok(short_line(word, client, rest))
 }
 
-/// The line of a client that begins with a word, which isn't `edit`, and ends with the rest.
-fn short_line(word: &str, client: u32, rest: &str) -> Option<ScriptLine>
-    requires { word.now ≢ codes "edit" }
-    ensures { Tells (IsClientLine word.now client rest.now) result }
+/// The line, where nothing follows its client's name.
+fn alone(line: ScriptLine, rest: &str) -> Option<ScriptLine>
+    ensures { MatchOption result (rest.now ≢ []) (λ same. (same ≡ line) × (rest.now ≡ [])) }
 {
-    if word == "join" && rest.is_empty() {
-        return Some(ScriptLine::Join { client });
-    }
-    if word == "show" && rest.is_empty() {
-        return Some(ScriptLine::Show { client });
-    }
-    if word == "post" {
-        let op = op_of(rest)?;
-        return Some(ScriptLine::Post { client, op });
-    }
-    if word == "send" {
-        let count = count_of(rest)?;
-        return Some(ScriptLine::Send { client, count });
-    }
-    if word == "recv" {
-        let count = count_of(rest)?;
-        return Some(ScriptLine::Recv { client, count });
-    }
-    if word == "pending" {
-        let cell = number_of(rest)?;
-        return Some(ScriptLine::Pending { client, cell });
-    }
-    None
+    if rest.is_empty() { Some(line) } else { None }
+}
+
+/// The line of a client that begins with `send` and ends with the rest: a count.
+fn send_line(client: u32, rest: &str) -> Option<ScriptLine>
+    ensures { Tells (IsClientLine (codes "send") client rest.now) result }
+{
+    let count = count_of(rest)?;
+    Some(ScriptLine::Send { client, count })
+}
+
+/// The line of a client that begins with `recv` and ends with the rest: a count.
+fn recv_line(client: u32, rest: &str) -> Option<ScriptLine>
+    ensures { Tells (IsClientLine (codes "recv") client rest.now) result }
+{
+    let count = count_of(rest)?;
+    Some(ScriptLine::Recv { client, count })
+}
+
+/// The line of a client that begins with `pending` and ends with the rest: a cell's number.
+fn pending_line(client: u32, rest: &str) -> Option<ScriptLine>
+    ensures { Tells (IsClientLine (codes "pending") client rest.now) result }
+{
+    let cell = number_of(rest)?;
+    Some(ScriptLine::Pending { client, cell })
 }
 
 /// The line of a client that begins with `edit` and ends with the rest: a cell's number and a delta.
@@ -117,21 +126,41 @@ fn edit_line(alloc: Global, client: u32, rest: &str) -> Result<Option<ScriptLine
     }))
 }
 
-/// The operation that a text writes: `queue` and a cell's number.
-fn op_of(text: &str) -> Option<PostedOp>
-    ensures { MatchOption result ((op : PostedOpValue) → ¬ (IsOp text.now op)) (IsOp text.now) }
+/// The line of a client that begins with `post` and ends with the rest: an operation that may be
+/// posted, or a report of a cell.
+fn post_line(alloc: Global, client: u32, rest: &str) -> Result<Option<ScriptLine>, AllocError>
+    ensures { IfOk result (Tells (IsClientLine (codes "post") client rest.now)) }
 {
-    let (word, rest) = split_word(text);
-    if word != "queue" {
-        return None;
+    let (word, operands) = split_word(rest);
+    if word == "report" {
+        let Some(cell) = number_of(operands) else {
+            return Ok(None);
+        };
+        return Ok(Some(ScriptLine::PostReport { client, cell }));
     }
-    let cell = number_of(rest)?;
-    Some(PostedOp::Queue { cell })
+    let Some(op) = operation_of(alloc, word, operands)? else {
+        return Ok(None);
+    };
+    if !op.is_postable() {
+        return Ok(None);
+    }
+    Ok(Some(ScriptLine::Post { client, op }))
+}
+
+/// The line of a client that begins with `raw` and ends with the rest: any operation.
+fn raw_line(alloc: Global, client: u32, rest: &str) -> Result<Option<ScriptLine>, AllocError>
+    ensures { IfOk result (Tells (IsClientLine (codes "raw") client rest.now)) }
+{
+    let (word, operands) = split_word(rest);
+    let Some(op) = operation_of(alloc, word, operands)? else {
+        return Ok(None);
+    };
+    Ok(Some(ScriptLine::Raw { client, op }))
 }
 
 /// The count that a text writes: a number or `all`.
 fn count_of(text: &str) -> Option<Count>
-    ensures { MatchOption result ((count : CountValue) → ¬ (IsCount text.now count)) (IsCount text.now) }
+    ensures { Tells (IsCount text.now) result }
 {
     if text == "all" {
         return Some(Count::All);

@@ -12,13 +12,15 @@ mod error;
 mod form;
 mod line;
 mod names;
+mod ops;
 mod read;
+mod texts;
 mod words;
 
 pub use book::Script;
 pub use content::Content;
 pub use error::{LineFault, ScriptError};
-pub use line::{Count, PostedOp, ScriptLine};
+pub use line::{Count, ScriptLine};
 pub use read::read_script;
 
 #[cfg(test)]

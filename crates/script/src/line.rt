@@ -3,6 +3,7 @@ ghost use Rattle.std.specs.Prelude.{◌≡◌};
 ghost use Rattle.script.specs.Line.{client_of};
 
 use delta::Delta;
+use session_ops::Op;
 
 /// What one line of a script does. A client is named by a number: the place of its name, from 0,
 /// in the order in which the names first stand in the script.
@@ -12,16 +13,27 @@ pub enum ScriptLine {
     Join {
         client: u32,
     },
+    /// `leave NAME`: the client leaves the session, and is gone with its outbox.
+    Leave {
+        client: u32,
+    },
     /// `edit NAME CELL DELTA`: the client edits a cell of its own notebook.
     Edit {
         client: u32,
         cell: u64,
         delta: Delta,
     },
-    /// `post NAME OP`: puts the operation at the end of the client's outbox.
+    /// `post NAME OP`: puts the operation at the end of the client's outbox. It is one that may be
+    /// posted as it is.
     Post {
         client: u32,
-        op: PostedOp,
+        op: Op,
+    },
+    /// `post NAME report CELL`: puts a report of the client's revision of the cell at the end of its
+    /// outbox.
+    PostReport {
+        client: u32,
+        cell: u64,
     },
     /// `send NAME COUNT`: the server takes messages from the front of the client's outbox.
     Send {
@@ -48,6 +60,15 @@ pub enum ScriptLine {
     Settle,
     /// `cells`: prints the states of the setup and code cells.
     Cells,
+    /// `rawjoin NAME`: the name's number joins the session without a client.
+    RawJoin {
+        client: u32,
+    },
+    /// `raw NAME OP`: the server is asked for the operation at once, under the name's number.
+    Raw {
+        client: u32,
+        op: Op,
+    },
 }
 
 impl ScriptLine {
@@ -57,22 +78,19 @@ impl ScriptLine {
     {
         match self {
             ScriptLine::Join { client }
+            | ScriptLine::Leave { client }
             | ScriptLine::Edit { client, .. }
             | ScriptLine::Post { client, .. }
+            | ScriptLine::PostReport { client, .. }
             | ScriptLine::Send { client, .. }
             | ScriptLine::Recv { client, .. }
             | ScriptLine::Show { client }
-            | ScriptLine::Pending { client, .. } => Some(*client),
+            | ScriptLine::Pending { client, .. }
+            | ScriptLine::RawJoin { client }
+            | ScriptLine::Raw { client, .. } => Some(*client),
             ScriptLine::Sync | ScriptLine::Settle | ScriptLine::Cells => None,
         }
     }
-}
-
-/// An operation that a client may post.
-#[derive(Clone, Copy, Debug, PartialEq, Eq)]
-pub enum PostedOp {
-    /// `queue CELL`: to have a cell evaluated.
-    Queue { cell: u64 },
 }
 
 /// How many messages or entries a line is about.

@@ -19,10 +19,11 @@ const MAX_BYTES: usize = 8_388_608;
 ///
 /// It answers `TooLarge` exactly where there are more than 8,388,608 bytes, and else `At` exactly
 /// at the first line, counted from 1, that isn't UTF-8 or isn't one of the lines `join NAME`,
-/// `edit NAME CELL DELTA`, `post NAME queue CELL`, `send NAME COUNT`, `recv NAME COUNT`, `sync`,
-/// `show NAME`, `pending NAME CELL`, `settle` and `cells` in its form, or has a name that would be
-/// the 65th. COUNT is a number or `all`. The lines stand in any order and number; whether a client
-/// has joined is not looked at.
+/// `leave NAME`, `edit NAME CELL DELTA`, `post NAME OP`, `send NAME COUNT`, `recv NAME COUNT`,
+/// `sync`, `show NAME`, `pending NAME CELL`, `settle`, `cells`, `rawjoin NAME` and `raw NAME RAWOP`
+/// in its form, or has a name that would be the 65th. COUNT is a number or `all`; OP and RAWOP are
+/// operations with their operands. The lines stand in any order and number; whether a client has
+/// joined is not looked at.
 pub fn read_script(alloc: Global, bytes: &[u8]) -> Result<Script, ScriptError>
     ensures script { MatchResult result (IsScriptOf bytes.now) (IsScriptCause bytes.now) }
     ensures single { IfOk result (λ script. (other : Content) → IsScriptOf bytes.now other → other ≡ script) }

@@ -1,39 +1,68 @@
 -- A session goes on standing for the state of its history while evaluations start and are answered.
-use Rattle.std.proofs.Common.{◌≡◌, ℕ, ◌+◌, ◌==◌, true, false, if◌then◌else◌, List, [], ◌∷◌, ◌++◌, map, Option, Some, None, refl, sym, ap, subst, ◌∙◌, arith}
-use Rattle.std.specs.Prelude.{find, filter, unwrap_or, IsSome}
+use Rattle.std.proofs.Common.{◌≡◌, ℕ, ◌+◌, Bool, true, false, if◌then◌else◌, List, [], ◌∷◌, ◌++◌, map, Option, Some, None, refl, sym, ap, subst, ◌∙◌, arith}
+use Rattle.std.specs.Prelude.{find, unwrap_or, IsSome, is_some}
+use Rattle.std.specs.Option.{option_map, option_copied}
+use Rattle.std.specs.Borrow.{Bor}
+use Rattle.std.specs.Str.{encode_utf8_all}
 use Rattle.std.specs.List.{AllByRecursion}
 use Rattle.std.proofs.lemmas.Bool.Decides.{nat_tests}
+use Rattle.std.proofs.lemmas.List.{map-append}
+use Rattle.ex_model.specs.declared.ran.Ran.{Ran}
 use Rattle.ex_model.specs.declared.ran.Shown.{Shown}
+use Rattle.ex_model.specs.declared.bindings.Binding.{Binding}
+use Rattle.ex_model.specs.Along.{After, MeansInCell, IsShown, is_last}
+use Rattle.notebook.specs.declared.parts.Cell.{Cell}
 use Rattle.notebook.specs.declared.parts.Parts.{Parts}
-use Rattle.notebook.specs.declared.states.Lane.TheVariants.{Main}
-use Rattle.notebook.specs.Book.{cells}
-use Rattle.notebook.specs.Flow.{path}
-use Rattle.notebook.specs.Rules.{cell_number, AreDistinct}
+use Rattle.notebook.specs.declared.parts.Passed.{Passed}
+use Rattle.notebook.specs.declared.states.Lane.{Lane}
+use Rattle.notebook.specs.Flow.{path, flow, lane_of, passed}
+use Rattle.notebook.specs.Rules.{IsNotebook}
+use Rattle.lanes.specs.declared.work.Running.{Running}
+use Rattle.lanes.specs.declared.work.Work.{Work}
+use Rattle.lanes.specs.Work.{may_start}
+use Rattle.lanes.specs.Changes.{running_eval, begun, stored, swept}
+use Rattle.lanes.proofs.Starting.{starts-sound, starts-lane}
 use Rattle.session_ops.specs.declared.entry.Call.TheVariants.{Start, Respond}
-use Rattle.session_ops.specs.declared.entry.Reply.{Reply}
-use Rattle.session_ops.specs.declared.entry.Reply.TheVariants.{Started, Stored}
+use Rattle.session_ops.specs.declared.entry.Reply.TheVariants.{Started}
 use Rattle.session_ops.specs.declared.entry.Entry.{Entry}
-use Rattle.session_ops.specs.Work.{Work, running_eval, may_start, begun, stored, swept}
-use Rattle.session_ops.specs.State.{State, Job, state, jobs, is_job, after, reply, start_reply, respond_reply, MayCall, IsAnswer, ShowsAlong}
-use Rattle.session_ops.proofs.Growing.{state-append, jobs-append}
+use Rattle.session_ops.specs.State.{State, Job, jobs, is_job, after_call, start_reply, respond_reply, reply, MayCall, IsAnswer, ShowsAlong, source_bytes}
+use Rattle.session_ops.proofs.Growing.{jobs-append}
 use Rattle.session_ops.proofs.Lists.{all-weaker, find-append-none}
+use Rattle.session_ops.proofs.Orderly.{orderly-state}
 use Rattle.session_ops.proofs.Shown.{IsFaithfulWork, IsJobBelow, faithful-work}
-use Rattle.main_lane.specs.declared.lane.PlainJob.{PlainJob}
-use Rattle.main_lane.specs.declared.lane.MainLane.{MainLane}
-use Rattle.main_lane.specs.Tracks.{Tracks, once_begun, HasTried, HasFinished, HasStarted as HasBegun, IsOut as Runs}
+use Rattle.session_core.specs.declared.job.PlainJob.{PlainJob}
 use Rattle.session_core.specs.declared.session.Session.{Session}
+use Rattle.session_core.specs.Jobs.{EndsOver, IsAlong, IsAlongTo, HasAfter, answer_by}
 use Rattle.session_core.specs.Logs.{AreLogs}
-use Rattle.session_core.specs.Session.{IsSession, HasAnswered, HasStarted, HasTriedStart, IsHandedOut, IsOut, history_of, state_of, entry_of}
-use Rattle.session_core.proofs.SessionLaws.{answered-session, logs-work}
+use Rattle.session_core.specs.Session.{IsSession, HasAnswered, HasStarted, IsHandedOut, history_of, state_of, entry_of}
+use Rattle.session_core.proofs.Basing.{has-after}
+use Rattle.session_core.proofs.Owners.{logs-work}
+use Rattle.session_core.proofs.SessionLaws.{answered-session}
 
--- the logs of a session whose notebook and logs stay
-kept-logs : (n0 : Parts) (s s' : Session) (w : Work) → IsSession n0 s → s'.book ≡ s.book → s'.logs.items ≡ s.logs.items → AreLogs (record (state_of n0 s) { work = w }) (cells s'.book) s'.logs.items
-kept-logs n0 s s' w is eb el =
-    let logs : AreLogs (state_of n0 s) (cells s'.book) s'.logs.items = subst (λ n. AreLogs (state_of n0 s) (cells n) s'.logs.items) (sym eb) (subst (AreLogs (state_of n0 s) (cells s.book)) (sym el) is.logs) in
-    logs-work (state_of n0 s) w (cells s'.book) s'.logs.items logs
+notebook-rules : (n0 : Parts) (s : Session) → IsSession n0 s → IsNotebook s.book
+notebook-rules n0 s is = subst IsNotebook (sym is.book) (orderly-state n0 (history_of s) is.opening is.legal).book
 
-kept-numbers : (n0 : Parts) (s s' : Session) → IsSession n0 s → s'.book ≡ s.book → AreDistinct (map cell_number (cells s'.book))
-kept-numbers n0 s s' is eb = subst (λ n. AreDistinct (map cell_number (cells n))) (sym eb) is.numbers
+-- a cell that may start has a lane
+pub has-lane : (n0 : Parts) (s : Session) (lane : Lane) (cell : ℕ) → IsSession n0 s → may_start s.book s.work lane ≡ Some cell → lane_of s.book cell ≡ None → ⊥
+has-lane n0 s lane cell is may none = let there : lane_of s.book cell ≡ Some lane = starts-lane s.book s.work lane cell (notebook-rules n0 s is) may in cc (none, there)
+
+-- bindings stand after what is before a cell that may start
+pub base-stands : (n0 : Parts) (s : Session) (lane : Lane) (cell : ℕ) (xs : List Cell) (c : Cell) → IsSession n0 s → may_start s.book s.work lane ≡ Some cell → flow s.book cell ≡ Some (xs ++ c ∷ []) → c.id ≡ cell → HasAfter (map passed xs)
+base-stands n0 s lane cell xs c is may flows number =
+    let rules : IsNotebook s.book = notebook-rules n0 s is in
+    let f : IsFaithfulWork (state_of n0 s).work (jobs n0 (history_of s)) = faithful-work n0 (history_of s) is.legal in
+    has-after s.work (jobs n0 (history_of s)) xs (subst (λ w. IsFaithfulWork w (jobs n0 (history_of s))) (sym is.work) f) (starts-sound s.book s.work lane cell xs c rules may flows number)
+
+last-is : (c : Cell) (cell : ℕ) (source : List ℕ) → c.id ≡ cell → source ≡ c.source → passed c ≡ record { cell = cell; source = source }
+last-is c cell source number same = λ i. record { cell = number i; source = sym same i }
+
+-- the source and the bindings of what is handed out
+pub along-to : (n : Parts) (cell : ℕ) (xs : List Cell) (c : Cell) (source : List ℕ) (base : List Binding) → flow n cell ≡ Some (xs ++ c ∷ []) → c.id ≡ cell → source ≡ c.source → After (map source_bytes (map passed xs)) base → IsAlongTo n cell source base
+along-to n cell xs c source base flows number same a = record {
+  present = map passed (xs ++ c ∷ []);
+  path_is = ap (option_map (map passed)) flows;
+  ends = record { before = map passed xs; parts = map-append passed xs (c ∷ []) ∙ ap (λ p. map passed xs ++ p ∷ []) (last-is c cell source number same); after = a };
+}
 
 -- a new job, under a number above those of all that are out
 new-job : (js : List Job) (top eval : ℕ) (j : Job) → AllByRecursion (IsJobBelow top) js → eval ≡ top + 1 → j.eval ≡ eval → find (is_job eval) (js ++ j ∷ []) ≡ Some j
@@ -43,60 +72,75 @@ new-job js top eval j below up number =
     find-append-none (is_job eval) js (j ∷ []) none ∙ ap (λ b. if b then Some j else None) here
 
 some-is : (o : Option ℕ) (c : ℕ) → o ≡ Some c → IsSome o
-some-is o c e = subst IsSome (sym e) (search)
+some-is o c e = ap is_some e
 
-begun-session : (n0 : Parts) (s s' : Session) (by eval cell : ℕ) (job : PlainJob) → IsSession n0 s → cell ≡ job.cell → eval ≡ job.eval → HasBegun (state_of n0 s).book (state_of n0 s).work job s'.lane
-    → history_of s' ≡ history_of s ++ entry_of by (Start Main) (Started eval cell) ∷ [] → s'.book ≡ s.book → s'.joined.items ≡ s.joined.items → s'.logs.items ≡ s.logs.items → HasStarted n0 by s s' job
-begun-session n0 s s' by eval cell job is ec ev v grown eb ej el =
+pub begun-session : (n0 : Parts) (s s' : Session) (by eval : ℕ) (lane : Lane) (w : Work) (job : PlainJob) → IsSession n0 s → may_start s.book s.work lane ≡ Some job.cell → job.eval ≡ s.work.started + 1 → eval ≡ job.eval → IsAlongTo s.book job.cell job.source job.base
+    → history_of s' ≡ history_of s ++ entry_of by (Start lane) (Started eval job.cell) ∷ [] → s'.book ≡ s.book → s'.joined.items ≡ s.joined.items → s'.logs.items ≡ s.logs.items → w ≡ begun s.book lane job.eval job.cell s.work → s'.work ≡ swept s.book w → HasStarted n0 by lane s s' job
+begun-session n0 s s' by eval lane w job is may next same along grown eb ej el ew es =
     let st : State = state_of n0 s in
     let js : List Job = jobs n0 (history_of s) in
-    let e : Entry = entry_of by (Start Main) (Started job.eval job.cell) in
-    let grown' : history_of s' ≡ history_of s ++ e ∷ [] = subst (λ k. history_of s' ≡ history_of s ++ entry_of by (Start Main) (Started k job.cell) ∷ []) ev (subst (λ k. history_of s' ≡ history_of s ++ entry_of by (Start Main) (Started eval k) ∷ []) ec grown) in
-    let st' : state_of n0 s' ≡ after st e = ap (state n0) grown' ∙ state-append n0 (history_of s) e in
-    let right : Started job.eval job.cell ≡ reply st (Start Main) = ap (λ k. Started k job.cell) v.eval ∙ ap (start_reply st) (sym v.may) in
-    let j : Job = record { eval = job.eval; by = by; path = unwrap_or (path st.book job.cell) [] } in
+    let may' : may_start st.book st.work lane ≡ Some job.cell = subst (λ n. may_start n st.work lane ≡ Some job.cell) is.book (subst (λ v. may_start s.book v lane ≡ Some job.cell) is.work may) in
+    let next' : job.eval ≡ st.work.started + 1 = next ∙ ap (λ (v : Work). v.started + 1) is.work in
+    let e : Entry = entry_of by (Start lane) (Started job.eval job.cell) in
+    let grown' : history_of s' ≡ history_of s ++ e ∷ [] = subst (λ k. history_of s' ≡ history_of s ++ entry_of by (Start lane) (Started k job.cell) ∷ []) same grown in
+    let right : Started job.eval job.cell ≡ reply st (Start lane) = ap (λ k. Started k job.cell) next' ∙ ap (start_reply st) (sym may') in
+    let p : List Passed = unwrap_or (path st.book job.cell) [] in
+    let j : Job = record { eval = job.eval; by = by; path = p } in
     let f : IsFaithfulWork st.work js = faithful-work n0 (history_of s) is.legal in
     let js' : jobs n0 (history_of s') ≡ js ++ j ∷ [] = ap (jobs n0) grown' ∙ jobs-append n0 (history_of s) e in
+    let here : path st.book job.cell ≡ Some along.present = subst (λ n. path n job.cell ≡ Some along.present) is.book along.path_is in
+    let read : along.present ≡ p = sym (ap (λ o. unwrap_or o []) here) in
+    let work : w ≡ begun st.book lane job.eval job.cell st.work = ew ∙ (ap (begun s.book lane job.eval job.cell) is.work ∙ ap (λ n. begun n lane job.eval job.cell st.work) is.book) in
     record {
-      may = v.may;
-      answered = answered-session n0 s s' by (Start Main) (Started job.eval job.cell) is (some-is (may_start st.book st.work Main) job.cell v.may) right grown' (eb ∙ is.book) (ej ∙ is.joined)
-          (kept-logs n0 s s' (begun st.book Main job.eval job.cell st.work) is eb el)
-          (kept-numbers n0 s s' is eb)
-          (subst (λ n. Tracks n (once_begun st.book st.work job) s'.lane) (sym (eb ∙ is.book)) v.tracks);
-      handed = subst (λ x. Runs x.work job) (sym st') v.out;
-      out = (j, (ap (find (is_job job.eval)) js' ∙ new-job js st.work.started job.eval j f.out v.eval refl, refl));
+      may = may';
+      answered = answered-session n0 s s' by (Start lane) (Started job.eval job.cell) is (some-is (may_start st.book st.work lane) job.cell may') right grown' (eb ∙ is.book) (ej ∙ is.joined)
+          (subst (AreLogs (record st { work = begun st.book lane job.eval job.cell st.work })) (sym el) (logs-work st (begun st.book lane job.eval job.cell st.work) s.logs.items is.logs))
+          (es ∙ (ap (swept s.book) work ∙ ap (λ n. swept n (begun st.book lane job.eval job.cell st.work)) is.book));
+      handed =
+          record {
+            out = j;
+            is_out = ap (find (is_job job.eval)) js' ∙ new-job js st.work.started job.eval j f.out next' refl;
+            number = refl;
+            along = subst (λ q. EndsOver q (record { cell = job.cell; source = job.source }) job.base) read along.ends;
+          };
     }
 
-tried-of : (n0 : Parts) (s s' : Session) (by eval cell : ℕ) (o : Option PlainJob) → IsSession n0 s → Some cell ≡ may_start (state_of n0 s).book (state_of n0 s).work Main → eval ≡ (state_of n0 s).work.started + 1 → HasTried (state_of n0 s).book (state_of n0 s).work s'.lane o
-    → history_of s' ≡ history_of s ++ entry_of by (Start Main) (Started eval cell) ∷ [] → s'.book ≡ s.book → s'.joined.items ≡ s.joined.items → s'.logs.items ≡ s.logs.items → HasTriedStart n0 by s s' o
-tried-of n0 s s' by eval cell None is may next v grown eb ej el = absurd (cc (may, v.0))
-tried-of n0 s s' by eval cell (Some job) is may next v grown eb ej el =
-    let cells_same : Some cell ≡ Some job.cell = may ∙ v.may in
-    begun-session n0 s s' by eval cell job is (cc cells_same) (next ∙ sym v.eval) v grown eb ej el
+-- the answer of a job that is out
+shown-along : (p : List Passed) (job : PlainJob) (ran : Ran) → IsAlong p job → MeansInCell (encode_utf8_all job.source) job.base ran → ShowsAlong p ran.shown
+shown-along p job ran along means =
+    let last : Passed = record { cell = job.cell; source = job.source } in
+    let joined : map source_bytes p ≡ map source_bytes along.before ++ encode_utf8_all job.source ∷ [] = ap (map source_bytes) along.parts ∙ map-append source_bytes along.before (last ∷ []) in
+    subst (λ q. IsShown q ran.shown) (sym joined) (is_last along.after means)
 
--- a start whose entry was put in, and whose job was then handed out
-pub tried-session : (n0 : Parts) (s s' : Session) (by eval cell : ℕ) (o : Option PlainJob) → IsSession n0 s → ((n : Parts) (w : Work) → Tracks n w s.lane → Some cell ≡ may_start n w Main) → ((n : Parts) (w : Work) → Tracks n w s.lane → eval ≡ w.started + 1) → ((w : Work) → Tracks s.book w s.lane → HasTried s.book w s'.lane o)
-    → history_of s' ≡ history_of s ++ entry_of by (Start Main) (Started eval cell) ∷ [] → s'.book ≡ s.book → s'.joined.items ≡ s.joined.items → s'.logs.items ≡ s.logs.items → HasTriedStart n0 by s s' o
-tried-session n0 s s' by eval cell o is may next v grown eb ej el =
-    let st : State = state_of n0 s in
-    let t : Tracks st.book st.work s.lane = subst (λ n. Tracks n st.work s.lane) is.book is.tracks in
-    tried-of n0 s s' by eval cell o is (may st.book st.work t) (next st.book st.work t) (subst (λ n. HasTried n st.work s'.lane o) is.book (v st.work is.tracks)) grown eb ej el
+-- whether something is lent
+pub some-lent : (o : Option (Bor Running)) (p : Option Running) → option_copied o ≡ p → is_some o ≡ is_some p
+some-lent None p e = ap is_some e
+some-lent (Some r) p e = ap is_some e
 
--- the answer of the job that runs
-pub responded-session : (n0 : Parts) (s s' : Session) (by eval : ℕ) (shown given : Shown) → IsSession n0 s → IsOut n0 s by eval → shown ≡ given → HasFinished s.book (state_of n0 s).work eval given s'.lane
-    → history_of s' ≡ history_of s ++ entry_of by (Respond eval shown) (Stored eval) ∷ [] → s'.book ≡ s.book → s'.joined.items ≡ s.joined.items → s'.logs.items ≡ s.logs.items → HasAnswered n0 by (Respond eval given) s s' (Stored eval)
-responded-session n0 s s' by eval shown given is out same fin grown eb ej el =
+answer-is : (eval : ℕ) (o : Option Running) → answer_by eval (is_some o) ≡ respond_reply eval o
+answer-is eval None = refl
+answer-is eval (Some r) = refl
+
+after-answer : (st : State) (eval : ℕ) (shown : Shown) (o : Option Running) → running_eval st.work eval ≡ o → after_call st (Respond eval shown) (respond_reply eval o) ≡ record st { work = stored shown st.work o }
+after-answer st eval shown None e = refl
+after-answer st eval shown (Some r) e = ap (λ o. record st { work = stored shown st.work o }) e
+
+pub responded-session : (n0 : Parts) (s s' : Session) (by eval : ℕ) (runs : Bool) (w : Work) (shown : Shown) (ran : Ran) (job : PlainJob) → IsSession n0 s → IsHandedOut n0 s by job → job.eval ≡ eval → MeansInCell (encode_utf8_all job.source) job.base ran → shown ≡ ran.shown → runs ≡ is_some (running_eval s.work eval)
+    → history_of s' ≡ history_of s ++ entry_of by (Respond eval shown) (answer_by eval runs) ∷ [] → s'.book ≡ s.book → s'.joined.items ≡ s.joined.items → s'.logs.items ≡ s.logs.items → w ≡ stored ran.shown s.work (running_eval s.work eval) → s'.work ≡ swept s.book w → HasAnswered n0 by (Respond eval ran.shown) s s' (answer_by eval runs)
+responded-session n0 s s' by eval runs w shown ran job is out number means same told grown eb ej el ew es =
     let st : State = state_of n0 s in
     let js : List Job = jobs n0 (history_of s) in
-    let f : IsFaithfulWork st.work js = faithful-work n0 (history_of s) is.legal in
-    let read : out.0.path ≡ fin.running.path = f.agree eval fin.running out.0 fin.runs out.1.0 in
-    let along : ShowsAlong out.0.path given = subst (λ p. ShowsAlong p given) (sym read) fin.right in
-    let may : MayCall st js by (Respond eval given) = subst (λ o. IsAnswer o by given) (sym out.1.0) (out.1.1, along) in
-    answered-session n0 s s' by (Respond eval given) (Stored eval) is may
-    (sym (ap (respond_reply eval) fin.runs))
-    (subst (λ x. history_of s' ≡ history_of s ++ entry_of by (Respond eval x) (Stored eval) ∷ []) same grown)
-    (eb ∙ is.book)
-    (ej ∙ is.joined)
-    (kept-logs n0 s s' (stored given st.work (running_eval st.work eval)) is eb el)
-    (kept-numbers n0 s s' is eb)
-    (subst (λ n. Tracks s'.book (swept n (stored given st.work (running_eval st.work eval))) s'.lane) is.book (subst (λ m. Tracks m (swept s.book (stored given st.work (running_eval st.work eval))) s'.lane) (sym eb) fin.tracks))
+    let along : ShowsAlong out.out.path ran.shown = shown-along out.out.path job ran out.along means in
+    let here : find (is_job eval) js ≡ Some out.out = subst (λ k. find (is_job k) js ≡ Some out.out) number out.is_out in
+    let may : MayCall st js by (Respond eval ran.shown) = subst (λ o. IsAnswer o by ran.shown) (sym here) (out.number, along) in
+    let runs' : runs ≡ is_some (running_eval st.work eval) = told ∙ ap (λ (v : Work). is_some (running_eval v eval)) is.work in
+    let right : answer_by eval runs ≡ reply st (Respond eval ran.shown) = ap (answer_by eval) runs' ∙ answer-is eval (running_eval st.work eval) in
+    let t : State = record st { work = stored ran.shown st.work (running_eval st.work eval) } in
+    let next_state : t ≡ after_call st (Respond eval ran.shown) (answer_by eval runs) = sym (ap (after_call st (Respond eval ran.shown)) right ∙ after-answer st eval ran.shown (running_eval st.work eval) refl) in
+    let work : w ≡ t.work = ew ∙ ap (λ (v : Work). stored ran.shown v (running_eval v eval)) is.work in
+    answered-session n0 s s' by (Respond eval ran.shown) (answer_by eval runs) is may right
+    (subst (λ x. history_of s' ≡ history_of s ++ entry_of by (Respond eval x) (answer_by eval runs) ∷ []) same grown)
+    (eb ∙ (is.book ∙ ap (λ (x : State). x.book) next_state))
+    (ej ∙ (is.joined ∙ ap (λ (x : State). x.joined) next_state))
+    (subst (λ x. AreLogs x s'.logs.items) next_state (subst (AreLogs t) (sym el) (logs-work st t.work s.logs.items is.logs)))
+    (es ∙ (ap (swept s.book) work ∙ (ap (λ n. swept n t.work) is.book ∙ ap (λ (x : State). swept x.book x.work) next_state)))

@@ -1,6 +1,11 @@
-pub mod LogLaws
-pub mod JoinLaws
-pub mod SessionLaws
-pub mod DeltaLaws
+pub mod Basing
 pub mod EvaluationLaws
+pub mod Handing
+pub mod LogLaws
+pub mod Owners
+pub mod Paths
+pub mod QueueLaws
 pub mod ReaderLaws
+pub mod SessionLaws
+pub mod SourceLaws
+pub mod StructureLaws

@@ -1,7 +1,6 @@
 -- The logs of a notebook's cells, one after the other.
-use Rattle.std.proofs.Common.{◌≡◌, ℕ, ◌+◌, ◌-◌, ◌<◌, ◌≤◌, ◌==◌, Bool, true, false, if◌then◌else◌, List, [], ◌∷◌, ◌++◌, length, take, map, Option, Some, None, zero, suc, refl, sym, ap, subst, ◌∙◌, arith}
+use Rattle.std.proofs.Common.{◌≡◌, ℕ, ◌+◌, ◌-◌, ◌<◌, ◌≤◌, List, [], ◌∷◌, ◌++◌, length, take, map, zero, suc, refl, sym, ap, subst, ◌∙◌, arith}
 use Rattle.std.proofs.Common.{set, get_or}
-use Rattle.std.specs.Prelude.{filter, not, IsSome}
 use Rattle.std.specs.List.{AllByRecursion, flat_map}
 use Rattle.std.proofs.lemmas.List.{take_more, append-nil, length-append}
 use Rattle.std.proofs.lemmas.List.Concat.{flat_map-append}
@@ -9,11 +8,8 @@ use Rattle.notebook.specs.declared.parts.Cell.{Cell}
 use Rattle.notebook.specs.declared.parts.Section.{Section}
 use Rattle.notebook.specs.Book.{cells_of}
 use Rattle.session_ops.proofs.Lists.{all-front, all-back}
-use Rattle.session_ops.specs.Work.{Work}
 use Rattle.session_ops.specs.State.{State, revision}
-use Rattle.session_ops.specs.Snapshot.{revisions_of}
-use Rattle.revisions.specs.Stands.{StandsFor}
-use Rattle.session_core.specs.Logs.{IsCellLog, AreLogs, AreLogsPast}
+use Rattle.session_core.specs.Logs.{IsCellLog, LineUp, ArePast, log_cell, with_revision}
 use Rattle.session_core.specs.declared.logs.CellLog.{CellLog}
 
 take-front : {X : Type 0} (xs ys : List X) → take (length xs) (xs ++ ys) ≡ xs
@@ -28,7 +24,7 @@ popped xs ys zs x n put len cut =
     cut ∙ (ap (λ k. take k ys) less ∙ (ap (take (length xs)) put ∙ take-front xs (x ∷ [])))
 
 -- one log more
-pub logs-more : (s : State) (cs : List Cell) (ls : List CellLog) (c : Cell) (l : CellLog) → AreLogs s cs ls → IsCellLog s c l → AreLogs s (cs ++ c ∷ []) (ls ++ l ∷ [])
+pub logs-more : (s : State) (cs : List Cell) (ls : List CellLog) (c : Cell) (l : CellLog) → LineUp s cs ls → IsCellLog s c l → LineUp s (cs ++ c ∷ []) (ls ++ l ∷ [])
 logs-more s [] [] c l h k = (k, tt)
 logs-more s [] (x ∷ ls) c l h k = absurd h
 logs-more s (x ∷ cs) [] c l h k = absurd h
@@ -54,64 +50,51 @@ all-in-section P [] i s h lt e = absurd (omega (arith, lt))
 all-in-section P (x ∷ ss) zero s h lt e = subst (λ t. AllByRecursion P t.cells) (sym e) (all-front P x.cells (flat_map cells_of ss) h)
 all-in-section P (x ∷ ss) (suc i) s h lt e = all-in-section P ss i s (all-back P x.cells (flat_map cells_of ss) h) (omega (arith, lt)) e
 
--- the log at a place, and what the logs are once it is another
-pub record Opened (P : Cell → Type 0) (t s : State) (n : ℕ) (cs : List Cell) (ls : List CellLog) (l : CellLog) : Type 0 where
-  pub cell : Cell
-  pub has : P cell
-  pub holds : IsCellLog s cell l
-  pub forth : (l' : CellLog) → IsCellLog t cell l' → AreLogsPast t s (suc n) cs (set ls n l')
-  pub stay : (l' : CellLog) → IsCellLog s cell l' → AreLogsPast t s n cs (set ls n l')
+-- another log of the same cell in its place
+pub cells-set : (ls : List CellLog) (n : ℕ) (l l' : CellLog) → n < length ls → l ≡ get_or ls n l → l'.cell ≡ l.cell → map log_cell (set ls n l') ≡ map log_cell ls
+cells-set [] n l l' lt e k = absurd (omega (arith, lt))
+cells-set (x ∷ ls) zero l l' lt e k = ap (λ n. n ∷ map log_cell ls) (k ∙ ap log_cell e)
+cells-set (x ∷ ls) (suc n) l l' lt e k = ap (λ ns. x.cell ∷ ns) (cells-set ls n l l' (omega (arith, lt)) e k)
 
-pub opened : (P : Cell → Type 0) (t s : State) (n : ℕ) (cs : List Cell) (ls : List CellLog) (l : CellLog) → AllByRecursion P cs → AreLogsPast t s n cs ls → n < length ls → l ≡ get_or ls n l → Opened P t s n cs ls l
-opened P t s n cs [] l a h lt e = absurd (omega (arith, lt))
-opened P t s zero [] (x ∷ ls) l a h lt e = absurd h
-opened P t s (suc n) [] (x ∷ ls) l a h lt e = absurd h
-opened P t s zero (c ∷ cs) (x ∷ ls) l a h lt e = record { cell = c; has = a.0; holds = subst (IsCellLog s c) (sym e) h.0; forth = λ l' k. (k, h.1); stay = λ l' k. (k, h.1) }
-opened P t s (suc n) (c ∷ cs) (x ∷ ls) l a h lt e =
-    let o : Opened P t s n cs ls l = opened P t s n cs ls l a.1 h.1 (omega (arith, lt)) e in
-    record { cell = o.cell; has = o.has; holds = o.holds; forth = λ l' k. (h.0, o.forth l' k); stay = λ l' k. (h.0, o.stay l' k) }
+-- the log at a place where those before it are so and the others so, and another one in its place
+pub past-at : (P Q : CellLog → Type 0) (n : ℕ) (ls : List CellLog) (l : CellLog) → ArePast P Q n ls → n < length ls → l ≡ get_or ls n l → Q l
+past-at P Q n [] l h lt e = absurd (omega (arith, lt))
+past-at P Q zero (x ∷ ls) l h lt e = subst Q (sym e) h.0
+past-at P Q (suc n) (x ∷ ls) l h lt e = past-at P Q n ls l h.1 (omega (arith, lt)) e
 
--- the last log that stands for the other state
-pub record Undone (P : Cell → Type 0) (t s : State) (n : ℕ) (cs : List Cell) (ls : List CellLog) (l : CellLog) : Type 0 where
-  pub cell : Cell
-  pub has : P cell
-  pub holds : IsCellLog t cell l
-  pub back : (l' : CellLog) → IsCellLog s cell l' → AreLogsPast t s n cs (set ls n l')
+pub past-forth : (P Q : CellLog → Type 0) (n : ℕ) (ls : List CellLog) (l' : CellLog) → ArePast P Q n ls → n < length ls → P l' → ArePast P Q (suc n) (set ls n l')
+past-forth P Q n [] l' h lt k = absurd (omega (arith, lt))
+past-forth P Q zero (x ∷ ls) l' h lt k = (k, h.1)
+past-forth P Q (suc n) (x ∷ ls) l' h lt k = (h.0, past-forth P Q n ls l' h.1 (omega (arith, lt)) k)
 
-pub undone : (P : Cell → Type 0) (t s : State) (n : ℕ) (cs : List Cell) (ls : List CellLog) (l : CellLog) → AllByRecursion P cs → AreLogsPast t s (suc n) cs ls → n < length ls → l ≡ get_or ls n l → Undone P t s n cs ls l
-undone P t s n cs [] l a h lt e = absurd (omega (arith, lt))
-undone P t s n [] (x ∷ ls) l a h lt e = absurd h
-undone P t s zero (c ∷ cs) (x ∷ ls) l a h lt e = record { cell = c; has = a.0; holds = subst (IsCellLog t c) (sym e) h.0; back = λ l' k. (k, h.1) }
-undone P t s (suc n) (c ∷ cs) (x ∷ ls) l a h lt e =
-    let u : Undone P t s n cs ls l = undone P t s n cs ls l a.1 h.1 (omega (arith, lt)) e in
-    record { cell = u.cell; has = u.has; holds = u.holds; back = λ l' k. (h.0, u.back l' k) }
+pub past-stay : (P Q : CellLog → Type 0) (n : ℕ) (ls : List CellLog) (l' : CellLog) → ArePast P Q n ls → n < length ls → Q l' → ArePast P Q n (set ls n l')
+past-stay P Q n [] l' h lt k = absurd (omega (arith, lt))
+past-stay P Q zero (x ∷ ls) l' h lt k = (k, h.1)
+past-stay P Q (suc n) (x ∷ ls) l' h lt k = (h.0, past-stay P Q n ls l' h.1 (omega (arith, lt)) k)
+
+-- the last of those before
+pub past-last : (P Q : CellLog → Type 0) (n : ℕ) (ls : List CellLog) (l : CellLog) → ArePast P Q (suc n) ls → n < length ls → l ≡ get_or ls n l → P l
+past-last P Q n [] l h lt e = absurd (omega (arith, lt))
+past-last P Q zero (x ∷ ls) l h lt e = subst P (sym e) h.0
+past-last P Q (suc n) (x ∷ ls) l h lt e = past-last P Q n ls l h.1 (omega (arith, lt)) e
+
+pub past-back : (P Q : CellLog → Type 0) (n : ℕ) (ls : List CellLog) (l' : CellLog) → ArePast P Q (suc n) ls → n < length ls → Q l' → ArePast P Q n (set ls n l')
+past-back P Q n [] l' h lt k = absurd (omega (arith, lt))
+past-back P Q zero (x ∷ ls) l' h lt k = (k, h.1)
+past-back P Q (suc n) (x ∷ ls) l' h lt k = (h.0, past-back P Q n ls l' h.1 (omega (arith, lt)) k)
 
 -- all of them
-pub all-past : (t s : State) (n : ℕ) (cs : List Cell) (ls : List CellLog) → AreLogsPast t s n cs ls → length ls ≤ n → AreLogs t cs ls
-all-past t s zero [] [] h le = tt
-all-past t s zero (c ∷ cs) [] h le = absurd h
-all-past t s zero cs (l ∷ ls) h le = absurd (omega (arith, le))
-all-past t s (suc n) [] [] h le = tt
-all-past t s (suc n) [] (l ∷ ls) h le = absurd h
-all-past t s (suc n) (c ∷ cs) [] h le = absurd h
-all-past t s (suc n) (c ∷ cs) (l ∷ ls) h le = (h.0, all-past t s n cs ls h.1 (omega (arith, le)))
+pub past-all : (P Q : CellLog → Type 0) (n : ℕ) (ls : List CellLog) → ArePast P Q n ls → length ls ≤ n → AllByRecursion P ls
+past-all P Q n [] h le = tt
+past-all P Q zero (l ∷ ls) h le = absurd (omega (arith, le))
+past-all P Q (suc n) (l ∷ ls) h le = (h.0, past-all P Q n ls h.1 (omega (arith, le)))
 
 -- the revisions up to one more
-pub revisions-turn : (s : State) (cs : List Cell) (ls : List CellLog) (i : ℕ) (l : CellLog) (r : ℕ) → AreLogs s cs ls → i < length ls → l ≡ get_or ls i l → ((cell : ℕ) (text : List ℕ) → StandsFor s cell text l.log → r ≡ revision s cell)
-    → revisions_of s (take (i + 1) cs) ≡ revisions_of s (take i cs) ++ (l.cell, r) ∷ []
-revisions-turn s cs [] i l r h lt e f = absurd (omega (arith, lt))
-revisions-turn s [] (x ∷ ls) i l r h lt e f = absurd h
-revisions-turn s (c ∷ cs) (x ∷ ls) zero l r h lt e f =
-    let k : IsCellLog s c l = subst (IsCellLog s c) (sym e) h.0 in
-    rw (k.cell, f c.id c.source k.log) refl
-revisions-turn s (c ∷ cs) (x ∷ ls) (suc i) l r h lt e f =
+pub revisions-next : (s : State) (ls : List CellLog) (i : ℕ) (l : CellLog) (r : ℕ) → i < length ls → l ≡ get_or ls i l → r ≡ revision s l.cell → map (with_revision s) (map log_cell (take (i + 1) ls)) ≡ map (with_revision s) (map log_cell (take i ls)) ++ (l.cell, r) ∷ []
+revisions-next s [] i l r lt e f = absurd (omega (arith, lt))
+revisions-next s (x ∷ ls) zero l r lt e f =
+    let same : x.cell ≡ l.cell = ap log_cell (sym e) in
+    rw (same, f) refl
+revisions-next s (x ∷ ls) (suc i) l r lt e f =
     let one : suc i + 1 ≡ suc (i + 1) = omega arith in
-    rw one (ap (λ rs. (c.id, revision s c.id) ∷ rs) (revisions-turn s cs ls i l r h.1 (omega (arith, lt)) e f))
-
-pub revisions-end : (s : State) (cs : List Cell) (ls : List CellLog) (i : ℕ) → AreLogs s cs ls → length ls ≤ i → take i cs ≡ cs
-revisions-end s [] [] zero h le = refl
-revisions-end s [] [] (suc i) h le = refl
-revisions-end s [] (l ∷ ls) i h le = absurd h
-revisions-end s (c ∷ cs) [] i h le = absurd h
-revisions-end s (c ∷ cs) (l ∷ ls) zero h le = absurd (omega (arith, le))
-revisions-end s (c ∷ cs) (l ∷ ls) (suc i) h le = ap (λ xs. c ∷ xs) (revisions-end s cs ls i h.1 (omega (arith, le)))
+    rw one (ap (λ rs. (x.cell, revision s x.cell) ∷ rs) (revisions-next s ls i l r (omega (arith, lt)) e f))

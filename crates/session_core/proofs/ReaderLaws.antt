@@ -1,62 +1,137 @@
 -- What a session tells of its cells and lanes.
-use Rattle.std.proofs.Common.{◌≡◌, ℕ, List, Option, Some, None, refl, sym, ap, subst, ◌∙◌}
+use Rattle.std.proofs.Common.{◌≡◌, ℕ, ◌==◌, true, false, if◌then◌else◌, List, [], ◌∷◌, map, Option, Some, None, zero, suc, refl, sym, ap, subst, ◌∙◌, arith, eqb-true, eq-eqb}
+use Rattle.std.proofs.Common.{get_or}
+use Rattle.std.specs.Prelude.{Contains, length, ◌<◌, IsSome}
 use Rattle.std.specs.Option.{option_map, option_copied}
+use Rattle.std.specs.List.{AllByRecursion}
+use Rattle.notebook.specs.declared.parts.Cell.{Cell}
 use Rattle.notebook.specs.declared.parts.Parts.{Parts}
-use Rattle.notebook.specs.declared.states.Lane.TheVariants.{Main}
-use Rattle.notebook.specs.Flow.{Passed, path}
-use Rattle.session_ops.specs.Work.{Work, may_start}
-use Rattle.session_ops.specs.State.{State}
-use Rattle.main_lane.specs.declared.lane.Row.{Row}
-use Rattle.main_lane.specs.declared.lane.MainLane.{MainLane}
-use Rattle.main_lane.specs.Tracks.{Tracks, IsRow, IsRowBy}
+use Rattle.notebook.specs.declared.states.Lane.{Lane}
+use Rattle.notebook.specs.Book.{cells, found}
+use Rattle.notebook.specs.Rules.{AreDistinct}
+use Rattle.notebook.specs.Flow.{path}
+use Rattle.lanes.specs.declared.work.Work.{Work}
+use Rattle.lanes.specs.declared.judge.Row.{Row}
+use Rattle.lanes.specs.Rows.{IsRow}
+use Rattle.lanes.specs.Work.{ready_lane}
+use Rattle.session_ops.specs.Numbers.{is_in, AreOnce}
+use Rattle.session_ops.specs.State.{State, revision}
+use Rattle.session_ops.specs.Snapshot.{live_revision, revision_if, listed_revision, listed_cell, HasRevisions}
+use Rattle.session_ops.proofs.Live.{found-number}
+use Rattle.session_ops.proofs.Ready.{waiting-starts}
+use Rattle.session_core.specs.declared.logs.CellLog.{CellLog}
 use Rattle.session_core.specs.declared.session.Session.{Session}
-use Rattle.session_core.specs.Session.{IsSession, state_of, status_of, status_on, validity_of, validity_on, shown_of, shown_if}
+use Rattle.session_core.specs.Logs.{AreLogs, IsLogIn, log_cell, with_revision}
+use Rattle.session_core.specs.Session.{IsSession, IsWaiting, history_of, state_of, status_of, status_on, validity_of, validity_on, shown_of, shown_if}
 
--- what a session's lane tells by a notebook and a work, it tells by the state
-pub by-state : (P : Parts → Work → Type 0) (n0 : Parts) (s : Session) → IsSession n0 s → ((n : Parts) (w : Work) → Tracks n w s.lane → P n w) → P (state_of n0 s).book (state_of n0 s).work
-by-state P n0 s is f = subst (λ n. P n (state_of n0 s).work) is.book (f s.book (state_of n0 s).work is.tracks)
+-- what a session's notebook and work tell, its state's tell
+pub by-state : (P : Parts → Work → Type 0) (n0 : Parts) (s : Session) → IsSession n0 s → P s.book s.work → P (state_of n0 s).book (state_of n0 s).work
+by-state P n0 s is h = subst (λ n. P n (state_of n0 s).work) is.book (subst (P s.book) is.work h)
 
-no-status : (s : State) (cell : ℕ) (o : Option (List Passed)) → IsRowBy s.work cell o None → None ≡ option_map (status_on s cell) o
-no-status s cell None h = refl
-no-status s cell (Some p) h = absurd h
+-- the lane that is ready, where nothing runs and some cell is queued
+is-ready : (o : Option Lane) → ((lane : Lane) × (o ≡ Some lane)) → IsSome o
+is-ready None h = absurd (cc h.1)
+is-ready (Some lane) h = search
 
-no-validity : (s : State) (cell : ℕ) (o : Option (List Passed)) → IsRowBy s.work cell o None → None ≡ option_map (validity_on s cell) o
-no-validity s cell None h = refl
-no-validity s cell (Some p) h = absurd h
+pub some-ready : (n0 : Parts) (s : Session) (o : Option Lane) → IsSession n0 s → o ≡ ready_lane s.book s.work → IsWaiting (state_of n0 s) → IsSome o
+some-ready n0 s o is e waits =
+    let st : State = state_of n0 s in
+    let same : o ≡ ready_lane st.book st.work = by-state (λ n w. o ≡ ready_lane n w) n0 s is e in
+    let ready : (lane : Lane) × (ready_lane st.book st.work ≡ Some lane) = waiting-starts n0 (history_of s) waits.cell is.opening is.legal waits.rests waits.queued in
+    is-ready o (ready.0, same ∙ ready.1)
 
-no-shown : (s : State) (cell : ℕ) (o : Option (List Passed)) → IsRowBy s.work cell o None → None ≡ shown_if s cell o
-no-shown s cell None h = refl
-no-shown s cell (Some p) h = absurd h
+-- the revision of a cell
+pub revision-absent : (s : State) (cell : ℕ) → found cell (cells s.book) ≡ None → None ≡ live_revision s cell
+revision-absent s cell e = sym (ap (revision_if s) e)
 
-a-status : (s : State) (cell : ℕ) (o : Option (List Passed)) (r : Row) → IsRowBy s.work cell o (Some r) → Some r.status ≡ option_map (status_on s cell) o
-a-status s cell None r h = absurd h
-a-status s cell (Some p) r h = ap Some h.status
+pub revision-found : (s : State) (cell rev : ℕ) (l : CellLog) → l.cell ≡ cell → IsLogIn s l → rev ≡ revision s l.cell → Some rev ≡ live_revision s cell
+revision-found s cell rev l named h e =
+    let there : found cell (cells s.book) ≡ Some h.owner = ap (λ n. found n (cells s.book)) (sym named) ∙ h.is_found in
+    let number : h.owner.id ≡ cell = found-number cell (cells s.book) h.owner there in
+    ap Some (e ∙ ap (revision s) (named ∙ sym number)) ∙ sym (ap (revision_if s) there)
 
-a-validity : (s : State) (cell : ℕ) (o : Option (List Passed)) (r : Row) → IsRowBy s.work cell o (Some r) → Some r.validity ≡ option_map (validity_on s cell) o
-a-validity s cell None r h = absurd h
-a-validity s cell (Some p) r h = ap Some h.validity
+-- each live cell once, with its revision
+listed-none : (s : State) (cell : ℕ) (ns : List ℕ) → is_in cell ns ≡ false → listed_revision cell (map (with_revision s) ns) ≡ None
+listed-none s cell [] e = refl
+listed-none s cell (n ∷ ns) e =
+    elim (n == cell)
+    as (λ b. (if b then true else is_in cell ns) ≡ false → (if b then Some (revision s n) else listed_revision cell (map (with_revision s) ns)) ≡ None)
+    [ true ↦ λ k. absurd (cc k) | false ↦ λ k. listed-none s cell ns k ]
+    e
 
-a-shown : (s : State) (cell : ℕ) (o : Option (List Passed)) (r : Row) → IsRowBy s.work cell o (Some r) → option_copied r.shown ≡ shown_if s cell o
-a-shown s cell None r h = absurd h
-a-shown s cell (Some p) r h = h.shown
+listed-some : (s : State) (cell : ℕ) (ns : List ℕ) → is_in cell ns ≡ true → listed_revision cell (map (with_revision s) ns) ≡ Some (revision s cell)
+listed-some s cell [] e = absurd (cc e)
+listed-some s cell (n ∷ ns) e =
+    elim (n == cell)
+    as (λ b. (n == cell) ≡ b → (if b then true else is_in cell ns) ≡ true → (if b then Some (revision s n) else listed_revision cell (map (with_revision s) ns)) ≡ Some (revision s cell))
+    [ true ↦ λ t k. ap (λ m. Some (revision s m)) (eqb-true n cell t) | false ↦ λ t k. listed-some s cell ns k ]
+    refl
+    e
 
-row-of : (n0 : Parts) (s : Session) (cell : ℕ) (o : Option Row) → IsSession n0 s → ((n : Parts) (w : Work) → Tracks n w s.lane → IsRow n w cell o) → IsRow (state_of n0 s).book (state_of n0 s).work cell o
-row-of n0 s cell o is f = by-state (λ n w. IsRow n w cell o) n0 s is f
+in-logs : (s : State) (cell : ℕ) (ls : List CellLog) → AllByRecursion (IsLogIn s) ls → is_in cell (map log_cell ls) ≡ true → IsSome (found cell (cells s.book))
+in-logs s cell [] h e = absurd (cc e)
+in-logs s cell (l ∷ ls) h e =
+    elim (l.cell == cell)
+    as (λ b. (l.cell == cell) ≡ b → (if b then true else is_in cell (map log_cell ls)) ≡ true → IsSome (found cell (cells s.book)))
+    [ true ↦ λ t k. subst (λ n. IsSome (found n (cells s.book))) (eqb-true l.cell cell t) (subst IsSome (sym h.0.is_found) (search)) | false ↦ λ t k. in-logs s cell ls h.1 k ]
+    refl
+    e
 
-pub status-none : (n0 : Parts) (s : Session) (cell : ℕ) → IsSession n0 s → ((n : Parts) (w : Work) → Tracks n w s.lane → IsRow n w cell None) → None ≡ status_of (state_of n0 s) cell
-status-none n0 s cell is f = no-status (state_of n0 s) cell (path (state_of n0 s).book cell) (row-of n0 s cell None is f)
+live-of : (s : State) (cell : ℕ) (o : Option Cell) → found cell (cells s.book) ≡ o → IsSome o → revision_if s o ≡ Some (revision s cell)
+live-of s cell None e h = absurd (cc h)
+live-of s cell (Some c) e h = ap (λ n. Some (revision s n)) (found-number cell (cells s.book) c e)
 
-pub status-some : (n0 : Parts) (s : Session) (cell : ℕ) (r : Row) → IsSession n0 s → ((n : Parts) (w : Work) → Tracks n w s.lane → IsRow n w cell (Some r)) → Some r.status ≡ status_of (state_of n0 s) cell
-status-some n0 s cell r is f = a-status (state_of n0 s) cell (path (state_of n0 s).book cell) r (row-of n0 s cell (Some r) is f)
+dead-of : (s : State) (cell : ℕ) (o : Option Cell) → (IsSome o → ⊥) → revision_if s o ≡ None
+dead-of s cell None h = refl
+dead-of s cell (Some c) h = absurd (h refl)
 
-pub validity-none : (n0 : Parts) (s : Session) (cell : ℕ) → IsSession n0 s → ((n : Parts) (w : Work) → Tracks n w s.lane → IsRow n w cell None) → None ≡ validity_of (state_of n0 s) cell
-validity-none n0 s cell is f = no-validity (state_of n0 s) cell (path (state_of n0 s).book cell) (row-of n0 s cell None is f)
+each-revision : (s : State) (ls : List CellLog) (cell : ℕ) → AreLogs s ls → listed_revision cell (map (with_revision s) (map log_cell ls)) ≡ live_revision s cell
+each-revision s ls cell h =
+    elim (is_in cell (map log_cell ls))
+    as (λ b. is_in cell (map log_cell ls) ≡ b → listed_revision cell (map (with_revision s) (map log_cell ls)) ≡ live_revision s cell) [
+      | true ↦ λ t. listed-some s cell (map log_cell ls) t ∙ sym (live-of s cell (found cell (cells s.book)) refl (in-logs s cell ls h.logs t))
+      | false ↦ λ t. listed-none s cell (map log_cell ls) t ∙ sym (dead-of s cell (found cell (cells s.book)) (λ l. let live : is_in cell (map log_cell ls) ≡ true = h.live cell l in cc (t, live)))
+    ]
+    refl
 
-pub validity-some : (n0 : Parts) (s : Session) (cell : ℕ) (r : Row) → IsSession n0 s → ((n : Parts) (w : Work) → Tracks n w s.lane → IsRow n w cell (Some r)) → Some r.validity ≡ validity_of (state_of n0 s) cell
-validity-some n0 s cell r is f = a-validity (state_of n0 s) cell (path (state_of n0 s).book cell) r (row-of n0 s cell (Some r) is f)
+-- numbers that stand once are distinct
+contained : (n : ℕ) (ns : List ℕ) (k : ℕ) → k < length ns → get_or ns k n ≡ n → is_in n ns ≡ true
+contained n [] k within at = absurd (omega (arith, within))
+contained n (m ∷ ns) zero within at = ap (λ b. if b then true else is_in n ns) (eq-eqb m n at)
+contained n (m ∷ ns) (suc k) within at = elim (m == n) as (λ b. (if b then true else is_in n ns) ≡ true) [ true ↦ refl | false ↦ contained n ns k (omega (arith, within)) at ]
 
-pub shown-none : (n0 : Parts) (s : Session) (cell : ℕ) → IsSession n0 s → ((n : Parts) (w : Work) → Tracks n w s.lane → IsRow n w cell None) → None ≡ shown_of (state_of n0 s) cell
-shown-none n0 s cell is f = no-shown (state_of n0 s) cell (path (state_of n0 s).book cell) (row-of n0 s cell None is f)
+not-contained : (n : ℕ) (ns : List ℕ) → is_in n ns ≡ false → ¬ Contains ns n
+not-contained n ns e = λ k. let there : is_in n ns ≡ true = contained n ns k.0 k.1 k.2 in cc (e, there)
 
-pub shown-some : (n0 : Parts) (s : Session) (cell : ℕ) (r : Row) → IsSession n0 s → ((n : Parts) (w : Work) → Tracks n w s.lane → IsRow n w cell (Some r)) → option_copied r.shown ≡ shown_of (state_of n0 s) cell
-shown-some n0 s cell r is f = a-shown (state_of n0 s) cell (path (state_of n0 s).book cell) r (row-of n0 s cell (Some r) is f)
+distinct-of : (ns : List ℕ) → AreOnce ns → AreDistinct ns
+distinct-of [] h = tt
+distinct-of (n ∷ ns) h = (not-contained n ns h.0, distinct-of ns h.1)
+
+cells-of-revisions : (s : State) (ns : List ℕ) → map listed_cell (map (with_revision s) ns) ≡ ns
+cells-of-revisions s [] = refl
+cells-of-revisions s (n ∷ ns) = ap (λ ms. n ∷ ms) (cells-of-revisions s ns)
+
+pub has-revisions : (s : State) (ls : List CellLog) (revs : List (ℕ × ℕ)) → AreLogs s ls → revs ≡ map (with_revision s) (map log_cell ls) → HasRevisions s revs
+has-revisions s ls revs h e = record {
+  apart = subst AreDistinct (sym (ap (map listed_cell) e ∙ cells-of-revisions s (map log_cell ls))) (distinct-of (map log_cell ls) h.once);
+  each = λ cell. ap (listed_revision cell) e ∙ each-revision s ls cell h;
+}
+
+-- rows
+pub status-none : (s : State) (cell : ℕ) → path s.book cell ≡ None → None ≡ status_of s cell
+status-none s cell e = sym (ap (option_map (status_on s cell)) e)
+
+pub validity-none : (s : State) (cell : ℕ) → path s.book cell ≡ None → None ≡ validity_of s cell
+validity-none s cell e = sym (ap (option_map (validity_on s cell)) e)
+
+pub shown-none : (s : State) (cell : ℕ) → path s.book cell ≡ None → None ≡ shown_of s cell
+shown-none s cell e = sym (ap (shown_if s cell) e)
+
+pub status-some : (s : State) (cell : ℕ) (r : Row) → IsRow s.book s.work cell r → Some r.status ≡ status_of s cell
+status-some s cell r h = ap Some h.status ∙ sym (ap (option_map (status_on s cell)) h.live)
+
+pub validity-some : (s : State) (cell : ℕ) (r : Row) → IsRow s.book s.work cell r → Some r.validity ≡ validity_of s cell
+validity-some s cell r h = ap Some h.validity ∙ sym (ap (option_map (validity_on s cell)) h.live)
+
+pub shown-some : (s : State) (cell : ℕ) (r : Row) → IsRow s.book s.work cell r → option_copied r.shown ≡ shown_of s cell
+shown-some s cell r h = h.shown ∙ sym (ap (shown_if s cell) h.live)

@@ -1,31 +1,36 @@
 -- A session stands for the state that its history makes of the opening notebook.
-use Rattle.std.specs.Prelude.{◌≡◌, ℕ, ◌+◌, if◌then◌else◌, List, [], ◌∷◌, ◌++◌, length, map, find, Option, Some, None, option_map}
-use Rattle.notebook.specs.declared.parts.Cell.{Cell}
+use Rattle.std.specs.Prelude.{◌≡◌, ℕ, Bool, true, false, List, [], ◌∷◌, ◌++◌, find, Option, Some, None, option_map}
 use Rattle.notebook.specs.declared.parts.Parts.{Parts}
+use Rattle.notebook.specs.declared.parts.Passed.{Passed}
 use Rattle.notebook.specs.declared.states.Lane.{Lane}
-use Rattle.notebook.specs.declared.states.Lane.TheVariants.{Main}
 use Rattle.notebook.specs.declared.states.Status.{Status}
 use Rattle.notebook.specs.declared.states.Validity.{Validity}
-use Rattle.notebook.specs.Book.{cells, found}
-use Rattle.notebook.specs.Rules.{cell_number, AreDistinct}
-use Rattle.notebook.specs.Flow.{Passed, path}
+use Rattle.notebook.specs.Rules.{IsNotebook}
+use Rattle.notebook.specs.declared.parts.Cell.{Cell}
+use Rattle.notebook.specs.declared.change.Change.{Change}
+use Rattle.notebook.specs.declared.change.Change.TheVariants.{DeleteSection, DeleteCell}
+use Rattle.notebook.specs.declared.change.Changed.{Changed}
+use Rattle.notebook.specs.declared.change.NoteError.{NoteError}
+use Rattle.notebook.specs.declared.change.NoteError.TheVariants as note
+use Rattle.notebook.specs.Change.{Makes, change, Refuses}
+use Rattle.notebook.specs.Living.{made_cells}
+use Rattle.notebook.specs.Flow.{path}
 use Rattle.notebook.specs.Validity.{validity_by, status_by}
 use Rattle.ex_model.specs.declared.ran.Shown.{Shown}
+use Rattle.lanes.specs.Work.{may_start, is_queued, is_aborted, is_running, last_finished, path_read, shown_in, ready_lane as ready_lane_of}
 use Rattle.session_ops.specs.declared.entry.Call.{Call}
-use Rattle.session_ops.specs.declared.entry.Call.TheVariants.{Client, Start, Respond}
+use Rattle.session_ops.specs.declared.entry.Call.TheVariants.{Start}
 use Rattle.session_ops.specs.declared.entry.Reply.{Reply}
-use Rattle.session_ops.specs.declared.entry.Reply.TheVariants.{Accepted, Applied, Started, Stored, Late, Refused}
+use Rattle.session_ops.specs.declared.entry.Reply.TheVariants.{Started, Refused}
 use Rattle.session_ops.specs.declared.entry.Refusal.{Refusal}
 use Rattle.session_ops.specs.declared.entry.Refusal.TheVariants as refusal
-use Rattle.session_ops.specs.declared.entry.Op.{Op}
 use Rattle.session_ops.specs.declared.entry.Entry.{Entry}
-use Rattle.session_ops.specs.Work.{may_start, is_in, is_running, last_finished, path_read}
-use Rattle.session_ops.specs.State.{State, Job, state, reply, jobs, is_job, revision, Legal}
+use Rattle.session_ops.specs.State.{State, Job, state, reply, jobs, is_job, Legal, once_made}
 use Rattle.revisions.specs.declared.errors.RevError.{RevError}
 use Rattle.revisions.specs.declared.errors.RevError.TheVariants.{TooNew, TooOld, PastEnd, SplitsPair, OutOfMemory}
-use Rattle.main_lane.specs.declared.lane.PlainJob.{PlainJob}
-use Rattle.main_lane.specs.Tracks.{Tracks, shown_in, IsOut as Runs}
+use Rattle.session_core.specs.declared.job.PlainJob.{PlainJob}
 use Rattle.session_core.specs.declared.session.Session.{Session}
+use Rattle.session_core.specs.Jobs.{IsAlong}
 use Rattle.session_core.specs.Logs.{AreLogs}
 
 -- all that was asked of the session, with its answers
@@ -39,11 +44,11 @@ state_of n0 s = state n0 (history_of s)
 -- the session's history is legal, and the session holds what the history makes of the opening notebook
 pub record IsSession (n0 : Parts) (s : Session) : Type 0 where
   pub legal : Legal n0 (history_of s)
+  pub opening : IsNotebook n0
   pub book : s.book ≡ (state_of n0 s).book
   pub joined : s.joined.items ≡ (state_of n0 s).joined
-  pub logs : AreLogs (state_of n0 s) (cells s.book) s.logs.items
-  pub numbers : AreDistinct (map cell_number (cells s.book))
-  pub tracks : Tracks s.book (state_of n0 s).work s.lane
+  pub logs : AreLogs (state_of n0 s) s.logs.items
+  pub work : s.work ≡ (state_of n0 s).work
 
 abbrev pub entry_of : ℕ → Call → Reply → Entry
 entry_of by call answer = record { by = by; call = call; reply = answer }
@@ -59,34 +64,28 @@ pub record IsAsBefore (n0 : Parts) (old new : Session) : Type 0 where
   pub history : history_of new ≡ history_of old
   pub session : IsSession n0 new
 
--- an evaluation that was started under this number and isn't answered yet
-abbrev pub IsOut : Parts → Session → ℕ → ℕ → Type 0
-IsOut n0 s by eval = (j : Job) × ((find (is_job eval) (jobs n0 (history_of s)) ≡ Some j) × (j.by ≡ by))
+-- the job was started under this number and isn't answered yet: its source and its bindings are those along the path that was read at its start
+pub record IsHandedOut (n0 : Parts) (s : Session) (by : ℕ) (job : PlainJob) : Type 0 where
+  pub out : Job
+  pub is_out : find (is_job job.eval) (jobs n0 (history_of s)) ≡ Some out
+  pub number : out.by ≡ by
+  pub along : IsAlong out.path job
 
--- the job is the one that runs: its source and its bindings are those along the path that was read at its start
-abbrev pub IsHandedOut : Parts → Session → PlainJob → Type 0
-IsHandedOut n0 s job = Runs (state_of n0 s).work job
+-- an evaluation was started in the lane, and its job handed out: its source, and the bindings over which it is to be evaluated
+pub record HasStarted (n0 : Parts) (by : ℕ) (lane : Lane) (old new : Session) (job : PlainJob) : Type 0 where
+  pub may : may_start (state_of n0 old).book (state_of n0 old).work lane ≡ Some job.cell
+  pub answered : HasAnswered n0 by (Start lane) old new (Started job.eval job.cell)
+  pub handed : IsHandedOut n0 new by job
 
--- an evaluation was started, and its job handed out: its source, and the bindings over which it is to be evaluated
-pub record HasStarted (n0 : Parts) (by : ℕ) (old new : Session) (job : PlainJob) : Type 0 where
-  pub may : may_start (state_of n0 old).book (state_of n0 old).work Main ≡ Some job.cell
-  pub answered : HasAnswered n0 by (Start Main) old new (Started job.eval job.cell)
-  pub handed : IsHandedOut n0 new job
-  pub out : IsOut n0 new by job.eval
-
--- the same, or no cell of the main lane may start, and nothing was appended
-abbrev pub HasTriedStart : Parts → ℕ → Session → Session → Option PlainJob → Type 0
-HasTriedStart n0 by old new None = (may_start (state_of n0 old).book (state_of n0 old).work Main ≡ None) × IsAsBefore n0 old new
-HasTriedStart n0 by old new (Some job) = HasStarted n0 by old new job
+-- the same, or no cell of the lane may start, and nothing was appended
+abbrev pub HasTriedStart : Parts → ℕ → Lane → Session → Session → Option PlainJob → Type 0
+HasTriedStart n0 by lane old new None = (may_start (state_of n0 old).book (state_of n0 old).work lane ≡ None) × IsAsBefore n0 old new
+HasTriedStart n0 by lane old new (Some job) = HasStarted n0 by lane old new job
 
 -- why a reply refuses
 abbrev pub refused_by : Reply → Option Refusal
-refused_by Accepted = None
-refused_by (Applied rev x) = None
-refused_by (Started eval cell) = None
-refused_by (Stored eval) = None
-refused_by (Late eval) = None
 refused_by (Refused why) = Some why
+refused_by answer = None
 
 -- how a client is told that a delta isn't taken; for want of memory it is told nothing
 abbrev pub told : RevError → Option Refusal
@@ -96,20 +95,12 @@ told (PastEnd len) = Some (refusal.PastEnd len)
 told (SplitsPair at) = Some (refusal.SplitsPair at)
 told OutOfMemory = None
 
--- the revision of a live cell
-abbrev pub revision_if : State → Option Cell → Option ℕ
-revision_if s None = None
-revision_if s (Some c) = Some (revision s c.id)
-
-abbrev pub live_revision : State → ℕ → Option ℕ
-live_revision s cell = revision_if s (found cell (cells s.book))
-
 -- the status of a cell, and its validity by the path that it has now
 abbrev pub status_on : State → ℕ → List Passed → Status
-status_on s cell present = status_by (is_running s.work cell) (is_in cell s.work.queued)
+status_on s cell present = status_by (is_running s.work cell) (is_queued s.work cell)
 
 abbrev pub validity_on : State → ℕ → List Passed → Validity
-validity_on s cell present = validity_by (is_in cell s.work.aborted) (option_map path_read (last_finished s.work cell)) present
+validity_on s cell present = validity_by (is_aborted s.work cell) (option_map path_read (last_finished s.work cell)) present
 
 -- both of a live setup or code cell: a cell has a path exactly where it is one
 abbrev pub status_of : State → ℕ → Option Status
@@ -126,10 +117,51 @@ shown_if s cell (Some present) = option_map shown_in (last_finished s.work cell)
 abbrev pub shown_of : State → ℕ → Option Shown
 shown_of s cell = shown_if s cell (path s.book cell)
 
--- the first lane that may start: the main lane, where no section is a branch
-abbrev pub main_if : Option ℕ → Option Lane
-main_if None = None
-main_if (Some cell) = Some Main
-
+-- the first lane that may start: the main one first, and then the branches in notebook order
 abbrev pub ready_lane : State → Option Lane
-ready_lane s = main_if (may_start s.book s.work Main)
+ready_lane s = ready_lane_of s.book s.work
+
+-- nothing runs, and some cell is queued
+pub record IsWaiting (s : State) : Type 0 where
+  pub rests : s.work.running ≡ []
+  pub cell : ℕ
+  pub queued : is_queued s.work cell ≡ true
+
+-- a cell that a change makes, if it makes one, begins with this source
+abbrev pub first_of : List Cell → Option (List ℕ)
+first_of [] = None
+first_of (c ∷ cs) = Some c.source
+
+abbrev pub new_source : Parts → Change → Option (List ℕ)
+new_source n asked = first_of (made_cells n asked)
+
+-- whether a change takes cells away
+abbrev pub takes_away : Change → Bool
+takes_away (DeleteSection section) = true
+takes_away (DeleteCell cell) = true
+takes_away asked = false
+
+-- the session holds what the state says, whatever its history
+pub record Holds (s : State) (x : Session) : Type 0 where
+  pub book : x.book ≡ s.book
+  pub joined : x.joined.items ≡ s.joined
+  pub logs : AreLogs s x.logs.items
+  pub work : x.work ≡ s.work
+
+-- the change was made, or refused for this cause and nothing was changed
+abbrev pub HasMade : State → Change → Session → Changed → Type 0
+HasMade s asked new made = (change s.book asked ≡ Makes new.book made) × Holds (once_made s (Makes new.book made)) new
+
+abbrev pub HasNotMade : State → Change → Session → NoteError → Type 0
+HasNotMade s asked new why = Refuses s.book asked why × Holds s new
+
+-- how a client is told that a change isn't made; for want of memory it is told nothing
+abbrev pub told_change : NoteError → Option Refusal
+told_change note.NoCell = Some refusal.NoCell
+told_change note.NoSection = Some refusal.NoSection
+told_change (note.BadIndex len) = Some (refusal.BadIndex len)
+told_change note.BadParent = Some refusal.BadParent
+told_change note.HasBranches = Some refusal.HasBranches
+told_change note.TooManyCells = Some refusal.TooManyCells
+told_change note.TooManySections = Some refusal.TooManySections
+told_change note.OutOfMemory = None

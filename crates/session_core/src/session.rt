@@ -1,32 +1,25 @@
 //! The session: what the server holds, and the history of all that was asked of it.
-ghost use Rattle.std.specs.Prelude.{◌≡◌, ◌+◌, ◌<◌, ℕ, [], ◌∷◌, ◌++◌, Some, None, true, false, IfOk, OnOk, OnErr, length, slice_get};
+ghost use Rattle.std.specs.Prelude.{◌≡◌, ◌∷◌, ◌++◌, [], Some, None, IsSome, IfOk, OnOk, OnErr, MatchOption, length};
 ghost use Rattle.std.specs.Option.{option_copied};
-ghost use Rattle.std.specs.Str.{encode_utf8_all};
-ghost use Rattle.ex_model.specs.Along.{MeansInCell};
-ghost use Rattle.notebook.specs.declared.parts.Cell.{Cell};
 ghost use Rattle.notebook.specs.declared.parts.Parts.{Parts};
-ghost use Rattle.notebook.specs.Book.{cells, found};
-ghost use Rattle.notebook.specs.Flow.{IsUnbranched};
-ghost use Rattle.session_ops.specs.declared.entry.Call.{Call as AnyCall};
-ghost use Rattle.session_ops.specs.declared.entry.Call.TheVariants.{Client, Respond};
-ghost use Rattle.session_ops.specs.declared.entry.Op.TheVariants.{Join as IsJoin, Delta as IsDelta, Queue as IsQueue};
+ghost use Rattle.notebook.specs.Flow.{path};
+ghost use Rattle.lanes.specs.Work.{is_idle};
+ghost use Rattle.lanes.specs.Rows.{IsRow};
+ghost use Rattle.session_ops.specs.declared.entry.Call.TheVariants.{Client};
+ghost use Rattle.session_ops.specs.declared.entry.Op.TheVariants.{Join as IsJoin, Leave as IsLeave};
 ghost use Rattle.session_ops.specs.declared.entry.Reply.TheVariants.{Refused};
-ghost use Rattle.session_ops.specs.Snapshot.{IsSnapshot};
-ghost use Rattle.session_ops.specs.Work.{is_in, is_idle};
-ghost use Rattle.session_ops.specs.State.{reply, kind_reply};
-ghost use Rattle.revisions.specs.Stands.{IsMoved};
-ghost use Rattle.main_lane.specs.Tracks.{IsRow};
-ghost use Rattle.main_lane.specs.declared.lane.PlainJob.{PlainJob};
-ghost use Rattle.session_core.specs.Logs.{IsCellLog, place_in};
-ghost use Rattle.session_core.specs.Session.{IsSession, HasAnswered, IsAsBefore, IsOut, IsHandedOut, HasTriedStart, history_of, state_of, entry_of, refused_by, told, live_revision, status_of, validity_of, shown_of, ready_lane};
+ghost use Rattle.session_ops.specs.Snapshot.{IsSnapshot, live_revision};
+ghost use Rattle.session_ops.specs.State.{reply};
+ghost use Rattle.session_ops.specs.Structure.{change_of};
+ghost use Rattle.session_core.specs.Session.{IsSession, HasAnswered, IsAsBefore, IsWaiting, history_of, state_of, status_of, validity_of, shown_of, ready_lane};
 
-use crate::clients::is_in;
-use crate::logs::{CellLog, first_logs, place_of, revisions, take_part};
-use delta::Delta;
-use ex_model::{Ran, Shown};
-use main_lane::{MainLane, PlainJob, Row};
-use notebook::{CellId, Kind, Lane, Notebook, Status, Validity};
-use revisions::{Move, RevError};
+use crate::clients::{is_in, remove};
+use crate::logs::{CellLog, first_logs, leave_all, place_of, revisions, take_part};
+use crate::sources::Edit;
+use crate::structure::change_of;
+use ex_model::Shown;
+use lanes::{Row, Work};
+use notebook::{CellId, Lane, Notebook, Status, Validity};
 use session_ops::{Call, Entry, Op, Refusal, Reply, Snapshot};
 use std::alloc::{AllocError, Global};
 
@@ -34,39 +27,28 @@ use std::alloc::{AllocError, Global};
 /// evaluators and what was shown, and the history.
 #[derive(Drop)]
 pub struct Session {
-    alloc: Global,
-    book: Notebook,
-    logs: Vec<CellLog>,
-    joined: Vec<u32>,
-    lane: MainLane,
-    history: Vec<Entry>,
-}
-
-/// A client's delta, which was made at the cell's revision `base`.
-#[derive(Drop)]
-struct Edit {
-    client: u32,
-    cell: CellId,
-    base: u64,
-    delta: Delta,
+    pub(crate) alloc: Global,
+    pub(crate) book: Notebook,
+    pub(crate) logs: Vec<CellLog>,
+    pub(crate) joined: Vec<u32>,
+    pub(crate) work: Work,
+    pub(crate) history: Vec<Entry>,
 }
 
 impl Session {
-    /// A session that opens with a notebook without branches: nobody has joined, nothing is queued, and
-    /// the history is empty.
+    /// A session that opens with a notebook: nobody has joined, nothing is queued, and the history is
+    /// empty.
     pub fn new(alloc: Global, book: Notebook) -> Result<Session, AllocError>
-        requires { IsUnbranched book }
         ensures { IfOk result (λ s. IsSession book s × (history_of s ≡ [])) }
     {
         let parts = book.parts();
         let logs = first_logs(alloc, parts)?;
-        let lane = MainLane::new(alloc, &book)?;
         Ok(Session {
             alloc,
             book,
             logs,
             joined: Vec::new(alloc),
-            lane,
+            work: Work::new(alloc),
             history: Vec::new(alloc),
         })
     }
@@ -77,9 +59,22 @@ impl Session {
         ensures ok { (n0 : Parts) → IsSession n0 self.old → IfOk result (HasAnswered n0 by (Client client op) self.old self.new) }
         ensures err { (n0 : Parts) → IsSession n0 self.old → OnErr result (IsAsBefore n0 self.old self.new) }
     {
+        match change_of(&op)? {
+            Some(change) => self.restructure(by, client, op, change),
+            None => self.act(by, client, op),
+        }
+    }
+
+    /// Does what a client asks that isn't a change of the structure.
+    fn act(&mut self, by: u32, client: u32, op: Op) -> Result<Reply, AllocError>
+        requires { change_of op ≡ None }
+        ensures ok { (n0 : Parts) → IsSession n0 self.old → IfOk result (HasAnswered n0 by (Client client op) self.old self.new) }
+        ensures err { (n0 : Parts) → IsSession n0 self.old → OnErr result (IsAsBefore n0 self.old self.new) }
+    {
         match op {
             Op::Join => self.join(by, client),
-            Op::Delta { cell, base, delta } => self.change(
+            Op::Leave => self.leave(by, client),
+            Op::Delta { cell, base, delta } => self.edit(
                 by,
                 Edit {
                     client,
@@ -88,7 +83,10 @@ impl Session {
                     delta,
                 },
             ),
+            Op::Report { cell, rev } => self.report(by, client, cell, rev),
             Op::Queue { cell } => self.queue(by, client, cell),
+            Op::Cancel { cell } => self.cancel(by, client, cell),
+            _ => unreachable!(),
         }
     }
 
@@ -117,133 +115,35 @@ impl Session {
         }
     }
 
-    /// Edits a cell's source.
-    fn change(&mut self, by: u32, edit: Edit) -> Result<Reply, AllocError>
-        ensures ok { (n0 : Parts) → IsSession n0 self.old → IfOk result (HasAnswered n0 by (Client edit.client (IsDelta edit.cell edit.base edit.delta)) self.old self.new) }
+    /// Lets a client take part no more.
+    fn leave(&mut self, by: u32, client: u32) -> Result<Reply, AllocError>
+        ensures ok { (n0 : Parts) → IsSession n0 self.old → IfOk result (HasAnswered n0 by (Client client IsLeave) self.old self.new) }
         ensures err { (n0 : Parts) → IsSession n0 self.old → OnErr result (IsAsBefore n0 self.old self.new) }
-    {
-        if !is_in(edit.client, self.joined.as_slice()) {
-            return self.refuse_edit(by, edit, Refusal::NotJoined);
-        }
-        match place_of(self.logs.as_slice(), edit.cell) {
-            None => self.refuse_edit(by, edit, Refusal::NoCell),
-            Some(at) => self.change_at(by, at, edit),
-        }
-    }
-
-    /// Edits the source of the cell whose log stands at a place, for a client that has joined.
-    fn change_at(&mut self, by: u32, at: usize, edit: Edit) -> Result<Reply, AllocError>
-        requires { Some at ≡ place_in edit.cell self.old.logs.items }
-        ensures ok { (n0 : Parts) → IsSession n0 self.old → is_in edit.client self.old.joined.items ≡ true → IfOk result (HasAnswered n0 by (Client edit.client (IsDelta edit.cell edit.base edit.delta)) self.old self.new) }
-        ensures err { (n0 : Parts) → IsSession n0 self.old → is_in edit.client self.old.joined.items ≡ true → OnErr result (IsAsBefore n0 self.old self.new) }
-    {
-        match self.logs[at].log.moved(self.alloc, edit.base, &edit.delta) {
-            Ok(moved) => self.take(by, at, edit, moved),
-            Err(fault) => match told(fault) {
-                Some(why) => self.refuse_edit(by, edit, why),
-                None => Err(AllocError),
-            },
-        }
-    }
-
-    /// Takes a client's delta, as it was moved to the present source.
-    fn take(&mut self, by: u32, at: usize, edit: Edit, moved: Move) -> Result<Reply, AllocError>
-        requires { Some at ≡ place_in edit.cell self.old.logs.items }
-        ensures ok { (n0 : Parts) (c : Cell) → IsSession n0 self.old → is_in edit.client self.old.joined.items ≡ true → found edit.cell (cells self.old.book) ≡ Some c → IsMoved (state_of n0 self.old) edit.cell c edit.base edit.delta moved → IfOk result (HasAnswered n0 by (Client edit.client (IsDelta edit.cell edit.base edit.delta)) self.old self.new) }
-        ensures err { (n0 : Parts) (c : Cell) → IsSession n0 self.old → is_in edit.client self.old.joined.items ≡ true → found edit.cell (cells self.old.book) ≡ Some c → IsMoved (state_of n0 self.old) edit.cell c edit.base edit.delta moved → OnErr result (IsAsBefore n0 self.old self.new) }
-    {
-        let Edit {
-            client,
-            cell,
-            base,
-            delta,
-        } = edit;
-        let Some(rev) = self.logs[at].log.rev().checked_add(1) else {
-            return Err(AllocError);
-        };
-        let source = moved.text.copy()?;
-        let kept = moved.delta.copy(self.alloc)?;
-        self.history.push(Entry {
-            by,
-            call: Call::Client {
-                client,
-                op: Op::Delta { cell, base, delta },
-            },
-            reply: Reply::Applied { rev, delta: kept },
-        })?;
-        match self.logs[at].log.take(self.alloc, client, moved) {
-            Ok(accepted) => {
-                self.book.set_source(cell, source);
-                self.lane.edited(&self.book, cell);
-                Ok(Reply::Applied {
-                    rev,
-                    delta: accepted.delta,
-                })
-            }
-            Err(fault) => {
-                self.history.pop();
-                Err(fault)
-            }
-        }
-    }
-
-    /// Queues a cell.
-    fn queue(&mut self, by: u32, client: u32, cell: CellId) -> Result<Reply, AllocError>
-        ensures ok { (n0 : Parts) → IsSession n0 self.old → IfOk result (HasAnswered n0 by (Client client (IsQueue cell)) self.old self.new) }
-        ensures err { (n0 : Parts) → IsSession n0 self.old → OnErr result (IsAsBefore n0 self.old self.new) }
-    {
-        match self.queue_refusal(client, cell) {
-            Some(why) => self.refuse(by, client, Op::Queue { cell }, why),
-            None => self.take_queued(by, client, cell),
-        }
-    }
-
-    /// Why a client may not queue a cell.
-    fn queue_refusal(&self, client: u32, cell: CellId) -> Option<Refusal>
-        ensures { (n0 : Parts) → IsSession n0 self.now → result ≡ refused_by (reply (state_of n0 self.now) (Client client (IsQueue cell))) }
     {
         if !is_in(client, self.joined.as_slice()) {
-            return Some(Refusal::NotJoined);
+            return self.refuse(by, client, Op::Leave, Refusal::NotJoined);
         }
-        match self.book.find(cell) {
-            None => Some(Refusal::NoCell),
-            Some(found) => self.code_refusal(cell, found.kind),
-        }
-    }
-
-    /// Why a cell of this kind may not be queued.
-    fn code_refusal(&self, cell: CellId, kind: Kind) -> Option<Refusal>
-        ensures { (n0 : Parts) → IsSession n0 self.now → result ≡ refused_by (kind_reply (state_of n0 self.now) cell kind) }
-    {
-        if kind == Kind::Markdown {
-            return Some(Refusal::NotCode);
-        }
-        match self.lane.failed_ancestor(cell) {
-            None => None,
-            Some(cell) => Some(Refusal::AncestorFailed { cell }),
-        }
-    }
-
-    /// Queues a cell that may be queued.
-    fn take_queued(&mut self, by: u32, client: u32, cell: CellId) -> Result<Reply, AllocError>
-        ensures ok { (n0 : Parts) → IsSession n0 self.old → refused_by (reply (state_of n0 self.old) (Client client (IsQueue cell))) ≡ None → IfOk result (HasAnswered n0 by (Client client (IsQueue cell)) self.old self.new) }
-        ensures err { (n0 : Parts) → IsSession n0 self.old → OnErr result (IsAsBefore n0 self.old self.new) }
-    {
-        let _kinds = self.book.parts();
         self.history.push(Entry {
             by,
             call: Call::Client {
                 client,
-                op: Op::Queue { cell },
+                op: Op::Leave,
             },
             reply: Reply::Accepted,
         })?;
-        self.lane.queue(cell);
+        remove(&mut self.joined, client);
+        leave_all(&mut self.logs, client);
         Ok(Reply::Accepted)
     }
 
     /// Refuses a call; the history alone grows.
-    fn refuse(&mut self, by: u32, client: u32, op: Op, why: Refusal) -> Result<Reply, AllocError>
+    pub(crate) fn refuse(
+        &mut self,
+        by: u32,
+        client: u32,
+        op: Op,
+        why: Refusal,
+    ) -> Result<Reply, AllocError>
         ensures ok { (n0 : Parts) → IsSession n0 self.old → reply (state_of n0 self.old) (Client client op) ≡ Refused why → IfOk result (HasAnswered n0 by (Client client op) self.old self.new) }
         ensures err { (n0 : Parts) → IsSession n0 self.old → OnErr result (IsAsBefore n0 self.old self.new) }
     {
@@ -253,61 +153,6 @@ impl Session {
             reply: Reply::Refused(why),
         })?;
         Ok(Reply::Refused(why))
-    }
-
-    /// Refuses a client's delta.
-    fn refuse_edit(&mut self, by: u32, edit: Edit, why: Refusal) -> Result<Reply, AllocError>
-        ensures ok { (n0 : Parts) → IsSession n0 self.old → reply (state_of n0 self.old) (Client edit.client (IsDelta edit.cell edit.base edit.delta)) ≡ Refused why → IfOk result (HasAnswered n0 by (Client edit.client (IsDelta edit.cell edit.base edit.delta)) self.old self.new) }
-        ensures err { (n0 : Parts) → IsSession n0 self.old → OnErr result (IsAsBefore n0 self.old self.new) }
-    {
-        let Edit {
-            client,
-            cell,
-            base,
-            delta,
-        } = edit;
-        self.refuse(by, client, Op::Delta { cell, base, delta }, why)
-    }
-
-    /// Starts the evaluation of the main lane's first due cell: appends the start and hands the job out.
-    /// `None` exactly where no cell of the lane may start, and then nothing is appended, nor after want
-    /// of memory.
-    pub fn start(&mut self, by: u32) -> Result<Option<PlainJob>, AllocError>
-        ensures ok { (n0 : Parts) → IsSession n0 self.old → IfOk result (HasTriedStart n0 by self.old self.new) }
-        ensures err { (n0 : Parts) → IsSession n0 self.old → OnErr result (IsAsBefore n0 self.old self.new) }
-    {
-        let Some(cell) = self.lane.next() else {
-            return Ok(None);
-        };
-        let eval = self.lane.started() + 1;
-        self.history.push(Entry {
-            by,
-            call: Call::Start { lane: Lane::Main },
-            reply: Reply::Started { eval, cell },
-        })?;
-        match self.lane.start(self.alloc, &self.book) {
-            Ok(job) => Ok(job),
-            Err(fault) => {
-                self.history.pop();
-                Err(fault)
-            }
-        }
-    }
-
-    /// Answers an evaluation that was started under the same number and that runs, with what its
-    /// source gives over its bindings within 200,000 steps. After want of memory nothing is appended.
-    pub fn respond(&mut self, by: u32, eval: u64, ran: Ran) -> Result<Reply, AllocError>
-        ensures ok { (n0 : Parts) (job : PlainJob) → IsSession n0 self.old → IsOut n0 self.old by eval → IsHandedOut n0 self.old job → job.eval ≡ eval → MeansInCell (encode_utf8_all job.source) job.base ran → IfOk result (HasAnswered n0 by (Respond eval ran.shown) self.old self.new) }
-        ensures err { (n0 : Parts) → IsSession n0 self.old → OnErr result (IsAsBefore n0 self.old self.new) }
-    {
-        let shown = ran.shown.copy()?;
-        self.history.push(Entry {
-            by,
-            call: Call::Respond { eval, shown },
-            reply: Reply::Stored { eval },
-        })?;
-        self.lane.finish(self.alloc, ran);
-        Ok(Reply::Stored { eval })
     }
 
     /// The present notebook with each live cell's revision, and the number of entries.
@@ -321,21 +166,20 @@ impl Session {
         })
     }
 
-    /// The first lane that may start. `None` exactly where none may. Takes no memory.
+    /// The first lane that may start: the main one, and then the branches in notebook order. `None`
+    /// exactly where none may: never while nothing runs and some cell is queued. Takes no memory.
     pub fn ready_lane(&self) -> Option<Lane>
-        ensures { (n0 : Parts) → IsSession n0 self.now → result ≡ ready_lane (state_of n0 self.now) }
+        ensures lane { (n0 : Parts) → IsSession n0 self.now → result ≡ ready_lane (state_of n0 self.now) }
+        ensures some { (n0 : Parts) → IsSession n0 self.now → IsWaiting (state_of n0 self.now) → IsSome result }
     {
-        match self.lane.next() {
-            None => None,
-            Some(_) => Some(Lane::Main),
-        }
+        self.work.ready_lane(&self.book)
     }
 
     /// Whether nothing is queued and nothing runs. Takes no memory.
     pub fn is_idle(&self) -> bool
         ensures { (n0 : Parts) → IsSession n0 self.now → result ≡ is_idle (state_of n0 self.now).work }
     {
-        self.lane.is_idle()
+        self.work.is_idle()
     }
 
     /// The history. Takes no memory.
@@ -354,7 +198,7 @@ impl Session {
             book: _,
             logs: _,
             joined: _,
-            lane: _,
+            work: _,
             history,
         } = self;
         history
@@ -381,9 +225,9 @@ impl Session {
     /// Status, validity and what is shown of a setup or code cell; `None` exactly where no live setup
     /// or code cell has the number. Takes no memory.
     pub fn row(&self, cell: CellId) -> Option<Row<'_>>
-        ensures { (n0 : Parts) → IsSession n0 self.now → IsRow (state_of n0 self.now).book (state_of n0 self.now).work cell result }
+        ensures { (n0 : Parts) → IsSession n0 self.now → MatchOption result (path (state_of n0 self.now).book cell ≡ None) (IsRow (state_of n0 self.now).book (state_of n0 self.now).work cell) }
     {
-        self.lane.row(cell)
+        self.work.row(&self.book, cell)
     }
 
     /// What is asked for a cell; `None` exactly where no live setup or code cell has the number. Takes
@@ -391,7 +235,7 @@ impl Session {
     pub fn status(&self, cell: CellId) -> Option<Status>
         ensures { (n0 : Parts) → IsSession n0 self.now → result ≡ status_of (state_of n0 self.now) cell }
     {
-        match self.lane.row(cell) {
+        match self.row(cell) {
             None => None,
             Some(row) => Some(row.status),
         }
@@ -402,7 +246,7 @@ impl Session {
     pub fn validity(&self, cell: CellId) -> Option<Validity>
         ensures { (n0 : Parts) → IsSession n0 self.now → result ≡ validity_of (state_of n0 self.now) cell }
     {
-        match self.lane.row(cell) {
+        match self.row(cell) {
             None => None,
             Some(row) => Some(row.validity),
         }
@@ -413,22 +257,9 @@ impl Session {
     pub fn shown(&self, cell: CellId) -> Option<&Shown>
         ensures { (n0 : Parts) → IsSession n0 self.now → option_copied result ≡ shown_of (state_of n0 self.now) cell }
     {
-        match self.lane.row(cell) {
+        match self.row(cell) {
             None => None,
             Some(row) => row.shown,
         }
-    }
-}
-
-/// How a client is told that its delta isn't taken; `None` for want of memory.
-fn told(fault: RevError) -> Option<Refusal>
-    ensures { result ≡ told fault }
-{
-    match fault {
-        RevError::TooNew { now } => Some(Refusal::TooNew { now }),
-        RevError::TooOld { kept } => Some(Refusal::TooOld { kept }),
-        RevError::PastEnd { len } => Some(Refusal::PastEnd { len }),
-        RevError::SplitsPair { at } => Some(Refusal::SplitsPair { at }),
-        RevError::OutOfMemory => None,
     }
 }

@@ -2,7 +2,7 @@
 use Rattle.std.proofs.Common.{◌≡◌, ℕ, ◌==◌, Bool, true, false, if◌then◌else◌, List, [], ◌∷◌, ◌++◌, Some, None, refl, sym, ap, subst, ◌∙◌}
 use Rattle.std.specs.Prelude.{filter, find, is_some}
 use Rattle.std.specs.List.{AllByRecursion}
-use Rattle.session_ops.specs.Work.{is_in}
+use Rattle.session_ops.specs.Numbers.{is_in}
 
 -- what is_some's test of a list finds
 pub find-wider : {X : Type 0} (p q : X → Bool) → ((x : X) → p x ≡ true → q x ≡ true) → (xs : List X) → is_some (find p xs) ≡ true → is_some (find q xs) ≡ true

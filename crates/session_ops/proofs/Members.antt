@@ -1,12 +1,9 @@
 -- Numbers that are in a list.
-use Rattle.std.proofs.Common.{◌≡◌, ℕ, ◌==◌, Bool, true, false, if◌then◌else◌, List, [], ◌∷◌, ◌++◌, map, Some, refl, ap, subst}
+use Rattle.std.proofs.Common.{◌≡◌, ℕ, ◌==◌, Bool, true, false, if◌then◌else◌, List, [], ◌∷◌, ◌++◌, Some, refl, ap, subst}
 use Rattle.std.specs.Prelude.{◌||◌, find, is_some}
 use Rattle.std.specs.List.{list_any, list_all, AllByRecursion}
 use Rattle.std.proofs.lemmas.Bool.{eqb-true, eq-eqb, and_from, or_left, or_right}
-use Rattle.notebook.specs.declared.parts.Cell.{Cell}
-use Rattle.notebook.specs.Rules.{cell_number}
-use Rattle.notebook.specs.Flow.{is_cell, up_to}
-use Rattle.session_ops.specs.Work.{is_in, before}
+use Rattle.session_ops.specs.Numbers.{is_in}
 
 pub in-here : (n : ℕ) (ns : List ℕ) → is_in n (n ∷ ns) ≡ true
 in-here n ns = ap (λ b. if b then true else is_in n ns) (eq-eqb n n refl)
@@ -74,88 +71,3 @@ in-append n (m ∷ ms) ns =
     elim (m == n)
     as (λ b. (if b then true else is_in n (ms ++ ns)) ≡ ((if b then true else is_in n ms) || is_in n ns))
     [ true ↦ refl | false ↦ in-append n ms ns ]
-
--- the first number of a lane that passes, and none of those before it does
-pub record IsFirst (p : ℕ → Bool) (cs : List Cell) : Type 0 where
-  pub first : ℕ
-  pub found : find p (map cell_number cs) ≡ Some first
-  pub passes : p first ≡ true
-  pub within : is_in first (map cell_number cs) ≡ true
-  pub others : (m : ℕ) → is_in m (map cell_number (before (is_cell first) cs)) ≡ true → p m ≡ false
-
-first-more : (p : ℕ → Bool) (c : Cell) (cs : List Cell) → p c.id ≡ false → IsFirst p cs → IsFirst p (c ∷ cs)
-first-more p c cs no_first f = record {
-  first = f.first;
-  found = rw no_first f.found;
-  passes = f.passes;
-  within = in-later f.first c.id (map cell_number cs) f.within;
-  others = λ m e.
-      elim (c.id == f.first)
-      as (λ b. (c.id == f.first) ≡ b → is_in m (map cell_number (if b then [] else c ∷ before (is_cell f.first) cs)) ≡ true → p m ≡ false) [
-        | true ↦ λ t k. absurd (cc k)
-        | false ↦ λ t k. by-first (λ j. p j ≡ false) m c.id (map cell_number (before (is_cell f.first) cs)) k no_first (λ j. f.others m j)
-      ]
-      refl
-      e;
-}
-
-pub first-due : (p : ℕ → Bool) (cs : List Cell) (n : ℕ) → is_in n (map cell_number cs) ≡ true → p n ≡ true → IsFirst p cs
-first-due p [] n e t = absurd (cc e)
-first-due p (c ∷ cs) n e t =
-    elim (p c.id)
-    as (λ b. p c.id ≡ b → IsFirst p (c ∷ cs)) [
-      | true ↦ λ k. record {
-        first = c.id;
-        found = rw k refl;
-        passes = k;
-        within = in-here c.id (map cell_number cs);
-        others = λ m j. absurd (let none : is_in m (map cell_number (before (is_cell c.id) (c ∷ cs))) ≡ false = ap (λ b. is_in m (map cell_number (if b then [] else c ∷ before (is_cell c.id) cs))) {y = true} (eq-eqb c.id c.id refl) in cc (none, j));
-      }
-      | false ↦ λ k. first-more p c cs k (first-due p cs n (by-first (λ j. p j ≡ true → is_in n (map cell_number cs) ≡ true) n c.id (map cell_number cs) e (λ j. absurd (cc (j, k))) (λ i j. i) t) t)
-    ]
-    refl
-
--- what stands before a cell of a flow stands before the flow's cell too
-pub before-flow : (c q m : ℕ) (cs : List Cell) → list_any (is_cell c) (up_to (is_cell q) cs) ≡ true → is_in m (map cell_number (before (is_cell c) cs)) ≡ true → is_in m (map cell_number (before (is_cell q) cs)) ≡ true
-before-flow c q m [] e k = absurd (cc e)
-before-flow c q m (x ∷ xs) e k =
-    elim (x.id == c)
-    as (λ b. list_any (is_cell c) (if x.id == q then x ∷ [] else x ∷ up_to (is_cell q) xs) ≡ true → (x.id == c) ≡ b → is_in m (map cell_number (if b then [] else x ∷ before (is_cell c) xs)) ≡ true → is_in m (map cell_number (if x.id == q then [] else x ∷ before (is_cell q) xs)) ≡ true) [
-      | true ↦ λ i t j. absurd (cc j)
-      | false ↦ λ i t j.
-          elim (x.id == q)
-          as (λ a. list_any (is_cell c) (if a then x ∷ [] else x ∷ up_to (is_cell q) xs) ≡ true → is_in m (map cell_number (if a then [] else x ∷ before (is_cell q) xs)) ≡ true) [
-            | true ↦ λ h. absurd (let none : (x.id == c || false) ≡ false = rw t refl in cc (none, h))
-            | false ↦ λ h. let rest : list_any (is_cell c) (up_to (is_cell q) xs) ≡ true = subst (λ b. (b || list_any (is_cell c) (up_to (is_cell q) xs)) ≡ true) t h in
-                by-first (λ n. is_in n (x.id ∷ map cell_number (before (is_cell q) xs)) ≡ true) m x.id (map cell_number (before (is_cell c) xs)) j (in-here x.id _) (λ n. in-later m x.id _ (before-flow c q m xs rest n))
-          ]
-          i
-    ]
-    e
-    refl
-    k
-
--- what stands before a cell stands in its flow
-pub in-flow : (q m : ℕ) (cs : List Cell) → is_in m (map cell_number (before (is_cell q) cs)) ≡ true → list_any (is_cell m) (up_to (is_cell q) cs) ≡ true
-in-flow q m [] e = absurd (cc e)
-in-flow q m (x ∷ xs) e =
-    elim (x.id == q)
-    as (λ b. is_in m (map cell_number (if b then [] else x ∷ before (is_cell q) xs)) ≡ true → list_any (is_cell m) (if b then x ∷ [] else x ∷ up_to (is_cell q) xs) ≡ true) [
-      | true ↦ λ k. absurd (cc k)
-      | false ↦ λ k.
-          elim (x.id == m)
-          as (λ a. (if a then true else is_in m (map cell_number (before (is_cell q) xs))) ≡ true → (a || list_any (is_cell m) (up_to (is_cell q) xs)) ≡ true)
-          [ true ↦ λ j. refl | false ↦ λ j. in-flow q m xs j ]
-          k
-    ]
-    e
-
--- a cell of a lane stands in its own flow
-pub in-own-flow : (q : ℕ) (cs : List Cell) → is_in q (map cell_number cs) ≡ true → list_any (is_cell q) (up_to (is_cell q) cs) ≡ true
-in-own-flow q [] e = absurd (cc e)
-in-own-flow q (x ∷ xs) e =
-    elim (x.id == q)
-    as (λ b. (x.id == q) ≡ b → (if b then true else is_in q (map cell_number xs)) ≡ true → list_any (is_cell q) (if b then x ∷ [] else x ∷ up_to (is_cell q) xs) ≡ true)
-    [ true ↦ λ t k. rw t refl | false ↦ λ t k. or_right (x.id == q) _ (in-own-flow q xs k) ]
-    refl
-    e

@@ -1,13 +1,14 @@
 -- One cell's source replaced by what is made of it.
-use Rattle.std.proofs.Common.{◌≡◌, ℕ, ◌==◌, Bool, true, false, if◌then◌else◌, List, [], ◌∷◌, ◌++◌, map, Some, None, suc, refl, sym, ap, subst, ◌∙◌, arith}
-use Rattle.std.specs.Prelude.{Contains}
+use Rattle.std.proofs.Common.{◌≡◌, ℕ, ◌==◌, Bool, true, false, if◌then◌else◌, List, [], ◌∷◌, ◌++◌, Some, None, refl, sym, ap, subst, ◌∙◌, arith}
+use Rattle.std.specs.Prelude.{◌||◌}
 use Rattle.std.proofs.lemmas.Bool.Decides.{nat_tests}
-use Rattle.std.specs.List.{flat_map}
+use Rattle.std.specs.List.{flat_map, list_any}
 use Rattle.notebook.specs.declared.parts.Cell.{Cell}
 use Rattle.notebook.specs.declared.parts.Section.{Section}
 use Rattle.notebook.specs.declared.parts.Parts.{Parts}
 use Rattle.notebook.specs.Book.{cells, cells_of, found, resourced_cells, resourced_sections, resourced, source_for, with_source}
-use Rattle.notebook.specs.Rules.{AreDistinct, cell_number}
+use Rattle.notebook.specs.Flow.{is_cell}
+use Rattle.session_ops.proofs.Live.{AreApart}
 
 -- two ways to make sources that agree on each of these cells
 abbrev pub Agree : (Cell → List ℕ) → (Cell → List ℕ) → List Cell → Type 0
@@ -55,33 +56,27 @@ none-left : (f : Cell → List ℕ) (id : ℕ) (by : List ℕ → List ℕ) (sou
 none-left f id by source h [] e = tt
 none-left f id by source h (c ∷ cs) e = none-of f id by source h c cs (c.id == id) refl e (none-left f id by source h cs)
 
-contains-later : (x y : ℕ) (xs : List ℕ) → Contains xs y → Contains (x ∷ xs) y
-contains-later x y xs h = (suc h.0, grind (arith, h.1), h.2)
-
-contains-here : (x : ℕ) (xs : List ℕ) → Contains (x ∷ xs) x
-contains-here x xs = (0, grind arith, refl)
-
 -- a number that no cell has isn't found
-absent-of : (id : ℕ) (c : Cell) (cs : List Cell) (b : Bool) → (c.id == id) ≡ b → (¬ Contains (map cell_number (c ∷ cs)) id) → found id cs ≡ None → (if b then Some c else found id cs) ≡ None
-absent-of id c cs true t h more = absurd (h (subst (λ k. Contains (map cell_number (c ∷ cs)) k) (grind (arith, nat_tests, t)) (contains-here c.id (map cell_number cs))))
-absent-of id c cs false t h more = more
-
-absent : (id : ℕ) (cs : List Cell) → (¬ Contains (map cell_number cs) id) → found id cs ≡ None
+absent : (id : ℕ) (cs : List Cell) → list_any (is_cell id) cs ≡ false → found id cs ≡ None
 absent id [] h = refl
-absent id (c ∷ cs) h = absent-of id c cs (c.id == id) refl h (absent id cs (λ k. h (contains-later c.id id (map cell_number cs) k)))
+absent id (c ∷ cs) h =
+    elim (c.id == id)
+    as (λ b. (b || list_any (is_cell id) cs) ≡ false → (if b then Some c else found id cs) ≡ None)
+    [ true ↦ λ k. absurd (cc k) | false ↦ λ k. absent id cs k ]
+    h
 
-same-of : (f : Cell → List ℕ) (id : ℕ) (by : List ℕ → List ℕ) → ChangesOne f id by → (c0 c : Cell) (cs : List Cell) (b : Bool) → AreDistinct (map cell_number (c ∷ cs)) → (c.id == id) ≡ b → (if b then Some c else found id cs) ≡ Some c0 → (found id cs ≡ Some c0 → Agree f (source_for id (by c0.source)) cs) → Agree f (source_for id (by c0.source)) (c ∷ cs)
+same-of : (f : Cell → List ℕ) (id : ℕ) (by : List ℕ → List ℕ) → ChangesOne f id by → (c0 c : Cell) (cs : List Cell) (b : Bool) → AreApart (c ∷ cs) → (c.id == id) ≡ b → (if b then Some c else found id cs) ≡ Some c0 → (found id cs ≡ Some c0 → Agree f (source_for id (by c0.source)) cs) → Agree f (source_for id (by c0.source)) (c ∷ cs)
 same-of f id by h c0 c cs true d t e more =
     let first : c ≡ c0 = cc e in
     let number : c.id ≡ id = grind (arith, nat_tests, t) in
     let head : f c ≡ source_for id (by c0.source) c = h.one c t ∙ (ap (λ k. by k.source) first ∙ sym (for-one c id (by c0.source) t)) in
-    (head, none-left f id by (by c0.source) h cs (absent id cs (subst (λ k. ¬ Contains (map cell_number cs) k) number d.0)))
+    (head, none-left f id by (by c0.source) h cs (absent id cs (subst (λ k. list_any (is_cell k) cs ≡ false) number d.0)))
 same-of f id by h c0 c cs false d t e more = (h.others c t ∙ sym (for-other c id (by c0.source) t), more e)
 
-same-one : (f : Cell → List ℕ) (id : ℕ) (by : List ℕ → List ℕ) → ChangesOne f id by → (c0 : Cell) (cs : List Cell) → AreDistinct (map cell_number cs) → found id cs ≡ Some c0 → Agree f (source_for id (by c0.source)) cs
+same-one : (f : Cell → List ℕ) (id : ℕ) (by : List ℕ → List ℕ) → ChangesOne f id by → (c0 : Cell) (cs : List Cell) → AreApart cs → found id cs ≡ Some c0 → Agree f (source_for id (by c0.source)) cs
 same-one f id by h c0 [] d e = tt
 same-one f id by h c0 (c ∷ cs) d e = same-of f id by h c0 c cs (c.id == id) d refl e (same-one f id by h c0 cs d.1)
 
 -- where the numbers differ, a way that changes only one cell gives that cell its new source
-pub with-one : (f : Cell → List ℕ) (id : ℕ) (by : List ℕ → List ℕ) (n : Parts) (c0 : Cell) → ChangesOne f id by → AreDistinct (map cell_number (cells n)) → found id (cells n) ≡ Some c0 → resourced f n ≡ with_source id (by c0.source) n
+pub with-one : (f : Cell → List ℕ) (id : ℕ) (by : List ℕ → List ℕ) (n : Parts) (c0 : Cell) → ChangesOne f id by → AreApart (cells n) → found id (cells n) ≡ Some c0 → resourced f n ≡ with_source id (by c0.source) n
 with-one f id by n c0 h d e = same-book f (source_for id (by c0.source)) n (same-one f id by h c0 (cells n) d e)

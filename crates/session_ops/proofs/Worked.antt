@@ -1,5 +1,6 @@
 -- Worked sessions, by computation: a check of the definitions.
 use Rattle.std.proofs.Common.{◌≡◌, ℕ, List, [], ◌∷◌, ◌++◌, map, Option, Some, None, refl, codes}
+use Rattle.std.specs.Prelude.{filter}
 use Rattle.std.specs.Option.{option_map}
 use Rattle.ex_value.specs.Values.{nil}
 use Rattle.ex_model.specs.declared.ran.Shown.{Shown}
@@ -12,22 +13,24 @@ use Rattle.notebook.specs.declared.parts.Section.{Section}
 use Rattle.notebook.specs.declared.parts.Parts.{Parts}
 use Rattle.notebook.specs.declared.parts.Kind.{Kind}
 use Rattle.notebook.specs.declared.parts.Kind.TheVariants.{Code, Markdown}
+use Rattle.notebook.specs.declared.change.CellKind.TheVariants as new
 use Rattle.notebook.specs.declared.states.Lane.TheVariants.{Main, Branch}
 use Rattle.notebook.specs.declared.states.Validity.{Validity}
 use Rattle.notebook.specs.declared.states.Validity.TheVariants.{Fresh, Evaluated, Stale, Aborted}
 use Rattle.notebook.specs.Book.{untitled, cells}
 use Rattle.notebook.specs.Rules.{cell_number}
-use Rattle.notebook.specs.Flow.{Passed, path, flow, lane_of}
+use Rattle.notebook.specs.declared.parts.Passed.{Passed}
+use Rattle.notebook.specs.Flow.{path, flow, lane_of}
 use Rattle.notebook.specs.Validity.{validity_by}
-use Rattle.session_ops.specs.declared.entry.Op.TheVariants.{Join, Delta, Queue}
+use Rattle.session_ops.specs.declared.entry.Op.TheVariants.{Join, Leave, InsertSection, DeleteSection, SetParent, InsertCell, DeleteCell, RestoreCell, MoveCell, Delta, Report, Queue, Cancel}
 use Rattle.session_ops.specs.declared.entry.Call.{Call}
 use Rattle.session_ops.specs.declared.entry.Call.TheVariants.{Client, Start, Respond}
-use Rattle.session_ops.specs.declared.entry.Refusal.TheVariants.{NotJoined, NoCell, NotCode, AncestorFailed}
+use Rattle.session_ops.specs.declared.entry.Refusal.TheVariants.{NotJoined, NoCell, NotCode, BadIndex, BadParent, HasBranches, TooNew, TooOld, AncestorFailed, NotQueued}
 use Rattle.session_ops.specs.declared.entry.Reply.{Reply}
-use Rattle.session_ops.specs.declared.entry.Reply.TheVariants.{Accepted, Applied, Started, Stored, Late, Refused}
+use Rattle.session_ops.specs.declared.entry.Reply.TheVariants.{Accepted, Applied, NewCell, NewSection, Started, Stored, Late, Refused}
 use Rattle.session_ops.specs.declared.entry.Entry.{Entry}
-use Rattle.session_ops.specs.Work.{is_in, path_read, last_finished, may_start}
-use Rattle.session_ops.specs.State.{State, opening, after, reply, state, jobs}
+use Rattle.lanes.specs.Work.{path_read, last_finished, is_aborted, may_start, ready_lane, is_queued_mark}
+use Rattle.session_ops.specs.State.{State, opening, after, reply, state, jobs, least, first_source}
 
 abbrev written : ℕ → Kind → List ℕ → Cell
 written id kind source = record { id = id; kind = kind; source = source; before = []; saved = [] }
@@ -55,7 +58,7 @@ played s [] = s
 played s (c ∷ cs) = played (after s (answered s c)) cs
 
 abbrev validity : State → ℕ → List Passed → Validity
-validity s cell present = validity_by (is_in cell s.work.aborted) (option_map path_read (last_finished s.work cell)) present
+validity s cell present = validity_by (is_aborted s.work cell) (option_map path_read (last_finished s.work cell)) present
 
 abbrev validities : State → List ℕ → List (Option Validity)
 validities s [] = []
@@ -157,7 +160,7 @@ failing-validities = refl
 failing-starts : starts failing failure ≡ None ∷ None ∷ Some 0 ∷ Some 0 ∷ None ∷ Some 1 ∷ None ∷ None ∷ []
 failing-starts = refl
 
-failing-swept : (played failing failure).work.queued ≡ []
+failing-swept : filter is_queued_mark (played failing failure).work.marks ≡ []
 failing-swept = refl
 
 -- a branch waits for the cells before it that aren't its own
@@ -181,3 +184,119 @@ lanes = refl
 -- a section that branches from none is no lane of its own
 no-lane : may_start (played pair (evaluation ++ ask 2 ∷ [])).book (played pair (evaluation ++ ask 2 ∷ [])).work (Branch 1) ≡ None
 no-lane = refl
+
+-- a structure that is made step by step, and what is refused of it
+abbrev plan : List Call
+plan = Client 0 Join ∷ Client 0 (InsertSection 0 (codes "A")) ∷ Client 0 (InsertCell 1 0 new.Code) ∷ Client 0 (InsertSection 1 (codes "B")) ∷ Client 0 (SetParent 2 (Some 1)) ∷ Client 0 (SetParent 1 (Some 2)) ∷ Client 0 (DeleteSection 1) ∷ Client 0 (MoveCell 1 2 0) ∷ Client 0 (InsertCell 2 5 new.Markdown) ∷ []
+
+plan-replies : replies (opening untitled) plan ≡ Accepted ∷ NewSection 1 ∷ NewCell 1 ∷ NewSection 2 ∷ Accepted ∷ Refused BadParent ∷ Refused HasBranches ∷ Accepted ∷ Refused (BadIndex 1) ∷ []
+plan-replies = refl
+
+plan-lane : lane_of (played (opening untitled) plan).book 1 ≡ Some (Branch 2)
+plan-lane = refl
+
+-- a cell is asked for and cancelled while it runs: its answer is late, and it is aborted until an answer is stored
+abbrev broken_off : List Call
+broken_off = Client 0 Join ∷ ask 1 ∷ Start Main ∷ Respond 1 good ∷ Start Main ∷ Client 0 (Cancel 1) ∷ Client 0 (Cancel 1) ∷ Respond 2 good ∷ []
+
+pair-broken_off : replies pair broken_off ≡ Accepted ∷ Accepted ∷ Started 1 0 ∷ Stored 1 ∷ Started 2 1 ∷ Accepted ∷ Refused NotQueued ∷ Late 2 ∷ []
+pair-broken_off = refl
+
+pair-aborted : validities (played pair broken_off) (0 ∷ 1 ∷ 2 ∷ []) ≡ Some Evaluated ∷ Some Aborted ∷ Some Fresh ∷ []
+pair-aborted = refl
+
+pair-asked-again : replies (played pair broken_off) (ask 1 ∷ Start Main ∷ Respond 3 good ∷ []) ≡ Accepted ∷ Started 3 1 ∷ Stored 3 ∷ []
+pair-asked-again = refl
+
+pair-whole-again : validities (played (played pair broken_off) (ask 1 ∷ Start Main ∷ Respond 3 good ∷ [])) (1 ∷ []) ≡ Some Evaluated ∷ []
+pair-whole-again = refl
+
+-- a queued cell that is cancelled before it starts
+pair-never-ran : starts pair (Client 0 Join ∷ ask 2 ∷ Client 0 (Cancel 2) ∷ []) ≡ None ∷ None ∷ Some 0 ∷ None ∷ []
+pair-never-ran = refl
+
+-- a deleted cell is restored: it has a new number and no revision, begins with the source that it had, and nothing is kept of its evaluation
+abbrev restored : List Call
+restored = evaluation ++ Client 0 (Delta 1 0 (step.Retain 4 ∷ step.Insert (codes "0") ∷ [])) ∷ ask 1 ∷ Client 0 (DeleteCell 1) ∷ Client 0 (DeleteCell 1) ∷ ask 1 ∷ Client 0 (RestoreCell 1 1 1) ∷ Client 0 (Delta 3 0 (step.Insert (codes "y") ∷ [])) ∷ []
+
+abbrev three : State
+three = opening (record (book (section 1 None (code 1 (codes "x = 2") ∷ code 2 (codes "x * 21") ∷ []) ∷ [])) { next_cell = 3; next_section = 2 })
+
+restored-replies : replies three restored ≡ replies three evaluation ++ Applied 1 (step.Retain 4 ∷ step.Insert (codes "0") ∷ []) ∷ Accepted ∷ Accepted ∷ Refused NoCell ∷ Refused NoCell ∷ NewCell 3 ∷ Applied 1 (step.Insert (codes "y") ∷ []) ∷ []
+restored-replies = refl
+
+restored-source : first_source 3 (played three restored).began ≡ codes "x = 02"
+restored-source = refl
+
+restored-validities : validities (played three restored) (0 ∷ 1 ∷ 2 ∷ 3 ∷ []) ≡ Some Evaluated ∷ None ∷ Some Stale ∷ Some Fresh ∷ []
+restored-validities = refl
+
+restored-order : map cell_number (cells (played three restored).book) ≡ 0 ∷ 2 ∷ 3 ∷ []
+restored-order = refl
+
+-- the marks that a delete drops are gone, also when the cell ran: its answer is late
+deleted-late : replies pair (Client 0 Join ∷ ask 1 ∷ Start Main ∷ Respond 1 good ∷ Start Main ∷ Client 0 (DeleteCell 1) ∷ Respond 2 good ∷ []) ≡ Accepted ∷ Accepted ∷ Started 1 0 ∷ Stored 1 ∷ Started 2 1 ∷ Accepted ∷ Late 2 ∷ []
+deleted-late = refl
+
+-- who leaves is known no more, and begins anew
+abbrev left_again : List Call
+left_again = Client 0 Join ∷ Client 1 Join ∷ Client 0 (Delta 1 0 (step.Insert (codes "a") ∷ [])) ∷ Client 0 Leave ∷ Client 0 (Report 1 1) ∷ Client 0 Leave ∷ Client 0 Join ∷ Client 1 (Delta 1 0 (step.Insert (codes "b") ∷ [])) ∷ []
+
+left-replies : replies pair left_again ≡ Accepted ∷ Accepted ∷ Applied 1 (step.Insert (codes "a") ∷ []) ∷ Accepted ∷ Refused NotJoined ∷ Refused NotJoined ∷ Accepted ∷ Applied 2 (step.Retain 1 ∷ step.Insert (codes "b") ∷ []) ∷ []
+left-replies = refl
+
+-- they stand last who join again
+left-order : (played pair left_again).joined ≡ 1 ∷ 0 ∷ []
+left-order = refl
+
+left-least : map (least (played pair left_again)) (1 ∷ 2 ∷ []) ≡ 1 ∷ 0 ∷ []
+left-least = refl
+
+-- reports raise the least floor, and an old delta is told so
+abbrev reported : List Call
+reported = Client 0 Join ∷ Client 1 Join ∷ Client 0 (Delta 1 0 (step.Insert (codes "a") ∷ [])) ∷ Client 1 (Report 1 2) ∷ Client 1 (Report 9 0) ∷ Client 1 (Report 1 1) ∷ Client 1 (Delta 1 0 (step.Insert (codes "b") ∷ [])) ∷ Client 1 (Report 1 0) ∷ []
+
+reported-replies : replies pair reported ≡ Accepted ∷ Accepted ∷ Applied 1 (step.Insert (codes "a") ∷ []) ∷ Refused (TooNew 1) ∷ Refused NoCell ∷ Accepted ∷ Refused (TooOld 1) ∷ Accepted ∷ []
+reported-replies = refl
+
+-- a lower report lowers nothing
+reported-least : map (least (played pair reported)) (1 ∷ 2 ∷ []) ≡ 1 ∷ 0 ∷ []
+reported-least = refl
+
+-- a section becomes a branch while its cell runs in the main lane: the cell is aborted, and its answer late; a cell of a branch that only gets another parent goes on
+abbrev reparented : State
+reparented = opening (book (section 1 None (code 1 [] ∷ []) ∷ section 2 None (code 2 [] ∷ []) ∷ section 3 (Some 2) (code 3 [] ∷ []) ∷ []))
+
+abbrev until_two : List Call
+until_two = Client 0 Join ∷ ask 3 ∷ Start Main ∷ Respond 1 good ∷ Start Main ∷ Respond 2 good ∷ Start Main ∷ []
+
+abbrev two_runs : List Call
+two_runs = until_two ++ Client 0 (SetParent 3 (Some 1)) ∷ Client 0 (SetParent 2 (Some 1)) ∷ Respond 3 good ∷ []
+
+reparented-replies : replies reparented two_runs ≡ Accepted ∷ Accepted ∷ Started 1 0 ∷ Stored 1 ∷ Started 2 1 ∷ Stored 2 ∷ Started 3 2 ∷ Accepted ∷ Accepted ∷ Late 3 ∷ []
+reparented-replies = refl
+
+reparented-validities : validities (played reparented two_runs) (1 ∷ 2 ∷ 3 ∷ []) ≡ Some Evaluated ∷ Some Aborted ∷ Some Fresh ∷ []
+reparented-validities = refl
+
+abbrev three_runs : List Call
+three_runs = until_two ++ Respond 3 good ∷ Start (Branch 3) ∷ Client 0 (SetParent 3 (Some 1)) ∷ Respond 4 good ∷ []
+
+reparented-goes-on : replies reparented three_runs ≡ replies reparented until_two ++ Stored 3 ∷ Started 4 3 ∷ Accepted ∷ Stored 4 ∷ []
+reparented-goes-on = refl
+
+reparented-stale : validities (played reparented three_runs) (2 ∷ 3 ∷ []) ≡ Some Evaluated ∷ Some Stale ∷ []
+reparented-stale = refl
+
+-- two branches run side by side, and the lane that is ready is the first of them
+abbrev branches_asked : List Call
+branches_asked = Client 0 Join ∷ ask 3 ∷ ask 4 ∷ Start Main ∷ Respond 1 good ∷ Start Main ∷ Respond 2 good ∷ Start (Branch 2) ∷ Start (Branch 3) ∷ Respond 4 good ∷ []
+
+branches-replies : replies (opening branching) branches_asked ≡ Accepted ∷ Accepted ∷ Accepted ∷ Started 1 0 ∷ Stored 1 ∷ Started 2 1 ∷ Stored 2 ∷ Started 3 2 ∷ Started 4 4 ∷ Stored 4 ∷ []
+branches-replies = refl
+
+branches-ready : ready_lane (played (opening branching) branches_asked).book (played (opening branching) branches_asked).work ≡ None
+branches-ready = refl
+
+branches-ready-then : ready_lane (played (opening branching) (branches_asked ++ Respond 3 good ∷ [])).book (played (opening branching) (branches_asked ++ Respond 3 good ∷ [])).work ≡ Some (Branch 2)
+branches-ready-then = refl

@@ -1,4 +1,6 @@
+pub mod Numbers
+pub mod Structure
 pub mod Same
 pub mod State
-pub mod Work
 pub mod Snapshot
+pub mod Orderly

@@ -1,5 +1,5 @@
 -- What a history makes of the opening notebook, and which histories are legal.
-use Rattle.std.specs.Prelude.{◌≡◌, ℕ, ◌+◌, ◌==◌, ◌&&◌, nat_lt, nat_le, max, min, if◌then◌else◌, Bool, List, [], ◌∷◌, ◌++◌, not, length, drop, map, filter, find, Option, Some, None, IsSome, unwrap_or}
+use Rattle.std.specs.Prelude.{◌≡◌, ℕ, ◌+◌, ◌==◌, ◌&&◌, ◌||◌, nat_lt, nat_le, max, min, if◌then◌else◌, Bool, List, [], ◌∷◌, ◌++◌, not, length, drop, map, filter, find, Option, Some, None, IsSome, unwrap_or}
 use Rattle.std.specs.Str.{encode_utf8_all}
 use Rattle.utf16_text.specs.Units.{unit_count}
 use Rattle.delta.specs.declared.Step.{Step}
@@ -7,21 +7,34 @@ use Rattle.delta.specs.Steps.{reach_of, broken_cut}
 use Rattle.delta.specs.Moves.{text_after, over}
 use Rattle.notebook.specs.declared.parts.Cell.{Cell}
 use Rattle.notebook.specs.declared.parts.Parts.{Parts}
+use Rattle.notebook.specs.declared.parts.Passed.{Passed}
 use Rattle.ex_model.specs.declared.ran.Shown.{Shown}
 use Rattle.ex_model.specs.Along.{IsShown}
 use Rattle.notebook.specs.declared.parts.Kind.{Kind}
 use Rattle.notebook.specs.declared.parts.Kind.TheVariants.{Setup, Code, Markdown}
 use Rattle.notebook.specs.Book.{cells, found, resourced}
-use Rattle.notebook.specs.Flow.{Passed, path}
-use Rattle.session_ops.specs.declared.entry.Op.TheVariants.{Join, Delta, Queue}
+use Rattle.notebook.specs.Flow.{path}
+use Rattle.notebook.specs.declared.change.Change.{Change}
+use Rattle.notebook.specs.declared.change.Changed.{Changed}
+use Rattle.notebook.specs.declared.change.Changed.TheVariants.{Plain, NewCell as MakesCell, NewSection as MakesSection}
+use Rattle.notebook.specs.declared.change.NoteError.{NoteError}
+use Rattle.notebook.specs.declared.change.NoteError.TheVariants as note
+use Rattle.notebook.specs.Change.{Attempt, Makes, Fails, change}
+use Rattle.lanes.specs.declared.work.Running.{Running}
+use Rattle.lanes.specs.declared.work.Work.{Work}
+use Rattle.lanes.specs.Work.{no_work, is_queued, is_running, failed_ancestor, may_start}
+use Rattle.lanes.specs.Changes.{asked, begun, running_eval, stored, cancelled, housed, swept}
+use Rattle.session_ops.specs.declared.entry.Op.{Op}
+use Rattle.session_ops.specs.declared.entry.Op.TheVariants.{Join, Leave, Delta, Report, Queue, Cancel}
 use Rattle.session_ops.specs.declared.entry.Call.{Call}
 use Rattle.session_ops.specs.declared.entry.Call.TheVariants.{Client, Start, Respond}
 use Rattle.session_ops.specs.declared.entry.Refusal.{Refusal}
-use Rattle.session_ops.specs.declared.entry.Refusal.TheVariants.{NotJoined, AlreadyJoined, NoCell, NotCode, TooNew, TooOld, PastEnd, SplitsPair, AncestorFailed}
+use Rattle.session_ops.specs.declared.entry.Refusal.TheVariants.{NotJoined, AlreadyJoined, NoCell, NoSection, NotCode, BadIndex, BadParent, HasBranches, TooManyCells, TooManySections, TooNew, TooOld, PastEnd, SplitsPair, AncestorFailed, NotQueued}
 use Rattle.session_ops.specs.declared.entry.Reply.{Reply}
-use Rattle.session_ops.specs.declared.entry.Reply.TheVariants.{Accepted, Applied, Started, Stored, Late, Refused}
+use Rattle.session_ops.specs.declared.entry.Reply.TheVariants.{Accepted, Applied, NewCell, NewSection, Started, Stored, Late, Refused}
 use Rattle.session_ops.specs.declared.entry.Entry.{Entry}
-use Rattle.session_ops.specs.Work.{Work, Running, no_work, is_in, with_number, failed_ancestor, may_start, begun, running_eval, stored, swept}
+use Rattle.session_ops.specs.Numbers.{is_in, without_number}
+use Rattle.session_ops.specs.Structure.{change_of}
 
 -- a delta that a cell's source took
 pub record Taken : Type 0 where
@@ -51,6 +64,10 @@ pub record State : Type 0 where
 abbrev pub beginnings : List Cell → List Began
 beginnings [] = []
 beginnings (c ∷ cs) = record { cell = c.id; source = c.source } ∷ beginnings cs
+
+abbrev pub beginnings_of : Option Cell → List Began
+beginnings_of None = []
+beginnings_of (Some c) = beginnings (c ∷ [])
 
 -- nobody has joined, and each live cell begins with the source that it has
 abbrev pub opening : Parts → State
@@ -116,19 +133,54 @@ delta_reply s cell base d (Some c) =
     else (if nat_lt base (least s cell) then Refused (TooOld (least s cell))
     else (let x : List Step = over d (drop base (taken_by cell s.taken)) in judged_by (revision s cell) x (misfit x c.source)))
 
--- the answer to a joined client that asks for a live code cell, by the first cell before it that failed
+-- the answer to a report of a joined client, for the live cell if there is one
+abbrev pub report_reply : State → ℕ → ℕ → Option Cell → Reply
+report_reply s cell rev None = Refused NoCell
+report_reply s cell rev (Some c) = if nat_lt (revision s cell) rev then Refused (TooNew (revision s cell)) else Accepted
+
+-- the answer for a live setup or code cell; no other cell is code
+abbrev pub code_reply : Kind → Reply → Reply
+code_reply Setup answer = answer
+code_reply Code answer = answer
+code_reply Markdown answer = Refused NotCode
+
+-- the answer to a joined client that asks for a cell, by the first cell before it that failed
 abbrev pub queue_reply_by : Option ℕ → Reply
 queue_reply_by None = Accepted
 queue_reply_by (Some failed) = Refused (AncestorFailed failed)
 
-abbrev pub kind_reply : State → ℕ → Kind → Reply
-kind_reply s cell Setup = queue_reply_by (failed_ancestor s.book s.work cell)
-kind_reply s cell Code = queue_reply_by (failed_ancestor s.book s.work cell)
-kind_reply s cell Markdown = Refused NotCode
-
 abbrev pub queue_reply : State → ℕ → Option Cell → Reply
 queue_reply s cell None = Refused NoCell
-queue_reply s cell (Some c) = kind_reply s cell c.kind
+queue_reply s cell (Some c) = code_reply c.kind (queue_reply_by (failed_ancestor s.book s.work cell))
+
+-- the answer to a joined client that cancels a cell, which has to be queued or to run
+abbrev pub cancel_reply_by : Bool → Reply
+cancel_reply_by wanted = if wanted then Accepted else Refused NotQueued
+
+abbrev pub cancel_reply : State → ℕ → Option Cell → Reply
+cancel_reply s cell None = Refused NoCell
+cancel_reply s cell (Some c) = code_reply c.kind (cancel_reply_by (is_queued s.work cell || is_running s.work cell))
+
+-- the answer to a change of the notebook's structure
+abbrev pub made_reply : Changed → Reply
+made_reply Plain = Accepted
+made_reply (MakesCell cell) = NewCell cell
+made_reply (MakesSection section) = NewSection section
+
+-- why a change is refused; want of memory is no cause of its own
+abbrev pub refusal_of_note : NoteError → Refusal
+refusal_of_note note.NoCell = NoCell
+refusal_of_note note.NoSection = NoSection
+refusal_of_note (note.BadIndex len) = BadIndex len
+refusal_of_note note.BadParent = BadParent
+refusal_of_note note.HasBranches = HasBranches
+refusal_of_note note.TooManyCells = TooManyCells
+refusal_of_note note.TooManySections = TooManySections
+refusal_of_note note.OutOfMemory = NoCell
+
+abbrev pub attempt_reply : Attempt → Reply
+attempt_reply (Makes n made) = made_reply made
+attempt_reply (Fails why) = Refused (refusal_of_note why)
 
 -- the next evaluation is of the cell that may start; where none may, no start is legal
 abbrev pub start_reply : State → Option ℕ → Reply
@@ -140,11 +192,27 @@ abbrev pub respond_reply : ℕ → Option Running → Reply
 respond_reply eval None = Late eval
 respond_reply eval (Some r) = Stored eval
 
+-- the answer to each operation of a client that has joined
+abbrev pub change_reply : State → Option Change → Reply
+change_reply s None = Accepted
+change_reply s (Some c) = attempt_reply (change s.book c)
+
+abbrev pub joined_reply : State → Op → Reply
+joined_reply s Join = Refused AlreadyJoined
+joined_reply s (Delta cell base d) = delta_reply s cell base d (found cell (cells s.book))
+joined_reply s (Report cell rev) = report_reply s cell rev (found cell (cells s.book))
+joined_reply s (Queue cell) = queue_reply s cell (found cell (cells s.book))
+joined_reply s (Cancel cell) = cancel_reply s cell (found cell (cells s.book))
+joined_reply s op = change_reply s (change_of op)
+
+-- a client that hasn't joined may only join
+abbrev pub stranger_reply : Op → Reply
+stranger_reply Join = Accepted
+stranger_reply op = Refused NotJoined
+
 -- the answer to each call
 abbrev pub reply : State → Call → Reply
-reply s (Client n Join) = if is_in n s.joined then Refused AlreadyJoined else Accepted
-reply s (Client n (Delta cell base d)) = if is_in n s.joined then delta_reply s cell base d (found cell (cells s.book)) else Refused NotJoined
-reply s (Client n (Queue cell)) = if is_in n s.joined then queue_reply s cell (found cell (cells s.book)) else Refused NotJoined
+reply s (Client n op) = if is_in n s.joined then joined_reply s op else stranger_reply op
 reply s (Start lane) = start_reply s (may_start s.book s.work lane)
 reply s (Respond eval shown) = respond_reply eval (running_eval s.work eval)
 
@@ -157,12 +225,42 @@ knows_all s n (c ∷ cs) = record { client = n; cell = c.id; rev = revision s c.
 abbrev pub moved_source : ℕ → List Step → Cell → List ℕ
 moved_source cell x c = if c.id == cell then text_after x c.source else c.source
 
--- the state after a call that was answered so
-abbrev pub after_call : State → Call → Reply → State
-after_call s (Client n Join) Accepted = record s { joined = s.joined ++ n ∷ []; known = s.known ++ knows_all s n (cells s.book) }
-after_call s (Client n (Delta cell base d)) (Applied rev x) =
+-- of a client that left nothing is known
+abbrev pub is_of_other : ℕ → Known → Bool
+is_of_other n k = not (k.client == n)
+
+abbrev pub once_left : ℕ → State → State
+once_left n s = record s { joined = without_number n s.joined; known = filter (is_of_other n) s.known }
+
+-- a change of the notebook's structure: a cell that it makes begins with the source that it has then, and what counts no more of the work goes
+abbrev pub begins_now : Parts → Changed → List Began
+begins_now n Plain = []
+begins_now n (MakesCell cell) = beginnings_of (found cell (cells n))
+begins_now n (MakesSection section) = []
+
+abbrev pub once_made : State → Attempt → State
+once_made s (Makes n made) = record s { book = n; began = s.began ++ begins_now n made; work = housed n s.work }
+once_made s (Fails why) = s
+
+abbrev pub once_changed : State → Option Change → State
+once_changed s None = s
+once_changed s (Some c) = once_made s (change s.book c)
+
+-- the state after a client's operation that was answered so
+abbrev pub after_op : State → ℕ → Op → Reply → State
+after_op s n op (Refused why) = s
+after_op s n Join answer = record s { joined = s.joined ++ n ∷ []; known = s.known ++ knows_all s n (cells s.book) }
+after_op s n Leave answer = once_left n s
+after_op s n (Delta cell base d) (Applied rev x) =
     record s { book = resourced (moved_source cell x) s.book; taken = s.taken ++ record { cell = cell; delta = x } ∷ []; known = s.known ++ record { client = n; cell = cell; rev = rev } ∷ [] }
-after_call s (Client n (Queue cell)) Accepted = record s { work = record s.work { queued = with_number cell s.work.queued } }
+after_op s n (Report cell rev) answer = record s { known = s.known ++ record { client = n; cell = cell; rev = rev } ∷ [] }
+after_op s n (Queue cell) answer = record s { work = asked cell s.work }
+after_op s n (Cancel cell) answer = record s { work = cancelled cell s.work }
+after_op s n op answer = once_changed s (change_of op)
+
+-- the state after a call that was answered so; a refused call changes nothing
+abbrev pub after_call : State → Call → Reply → State
+after_call s (Client n op) answer = after_op s n op answer
 after_call s (Start lane) (Started eval cell) = record s { work = begun s.book lane eval cell s.work }
 after_call s (Respond eval shown) (Stored e) = record s { work = stored shown s.work (running_eval s.work eval) }
 after_call s call answer = s

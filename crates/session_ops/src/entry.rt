@@ -1,41 +1,168 @@
 //! Calls, replies and the entries of a history.
 ghost use Rattle.std.specs.Prelude.{◌≡◌, IfOk};
+ghost use Rattle.session_ops.specs.Structure.{is_postable};
 
 use delta::Delta;
 use ex_model::Shown;
-use notebook::{CellId, Lane};
+use notebook::{CellId, CellKind, Lane, SectionId};
 use std::alloc::{AllocError, Global};
+use utf16_text::Text;
 
-/// What a client asks of the session.
+/// What a client asks of the session. Places (`index`) are counted from 0 among what stands there
+/// after what moves is taken out.
 #[derive(Debug, Drop)]
 pub enum Op {
     /// To take part: the client then knows the present revision of each cell.
     Join,
+    /// To take part no more.
+    Leave,
+    /// To give the notebook a name.
+    SetName {
+        name: Text,
+    },
+    /// To put a new section without parent at a place.
+    InsertSection {
+        index: u64,
+        name: Text,
+    },
+    /// To give a section a name.
+    SetSectionName {
+        section: SectionId,
+        name: Text,
+    },
+    /// To delete a section from which none branches; its cells go to the bin.
+    DeleteSection {
+        section: SectionId,
+    },
+    /// To put a section at another place.
+    MoveSection {
+        section: SectionId,
+        index: u64,
+    },
+    /// To have a section branch from an earlier one, or from none.
+    SetParent {
+        section: SectionId,
+        parent: Option<SectionId>,
+    },
+    /// To put a new empty cell at a place in a section.
+    InsertCell {
+        section: SectionId,
+        index: u64,
+        kind: CellKind,
+    },
+    /// To put a cell into the bin.
+    DeleteCell {
+        cell: CellId,
+    },
+    /// To take a cell out of the bin, as a new cell with a number of its own.
+    RestoreCell {
+        cell: CellId,
+        section: SectionId,
+        index: u64,
+    },
+    /// To put a cell at another place, in this or another section.
+    MoveCell {
+        cell: CellId,
+        section: SectionId,
+        index: u64,
+    },
     /// To edit a cell's source by a delta that was made at the cell's revision `base`.
     Delta {
         cell: CellId,
         base: u64,
         delta: Delta,
     },
+    /// To tell that the client has a cell's revision `rev`, and will build on none before it.
+    Report {
+        cell: CellId,
+        rev: u64,
+    },
     /// To have a setup or code cell evaluated, and before it what it stands on.
     Queue {
+        cell: CellId,
+    },
+    /// To have a cell neither queued nor running any more.
+    Cancel {
         cell: CellId,
     },
 }
 
 impl Op {
+    /// Whether a client may post it as it is: a join and a leave are made at once, and deltas and
+    /// reports are posted by calls of their own.
+    pub fn is_postable(&self) -> bool
+        ensures { result ≡ is_postable self.now }
+    {
+        !matches!(
+            self,
+            Op::Join | Op::Leave | Op::Delta { .. } | Op::Report { .. }
+        )
+    }
+
     /// An equal operation.
     pub fn copy(&self, alloc: Global) -> Result<Op, AllocError>
         ensures { IfOk result (λ op. op ≡ self.now) }
     {
         match self {
             Op::Join => Ok(Op::Join),
+            Op::Leave => Ok(Op::Leave),
+            Op::SetName { name } => Ok(Op::SetName { name: name.copy()? }),
+            Op::InsertSection { index, name } => Ok(Op::InsertSection {
+                index: *index,
+                name: name.copy()?,
+            }),
+            Op::SetSectionName { section, name } => Ok(Op::SetSectionName {
+                section: *section,
+                name: name.copy()?,
+            }),
+            Op::DeleteSection { section } => Ok(Op::DeleteSection { section: *section }),
+            Op::MoveSection { section, index } => Ok(Op::MoveSection {
+                section: *section,
+                index: *index,
+            }),
+            Op::SetParent { section, parent } => Ok(Op::SetParent {
+                section: *section,
+                parent: *parent,
+            }),
+            Op::InsertCell {
+                section,
+                index,
+                kind,
+            } => Ok(Op::InsertCell {
+                section: *section,
+                index: *index,
+                kind: *kind,
+            }),
+            Op::DeleteCell { cell } => Ok(Op::DeleteCell { cell: *cell }),
+            Op::RestoreCell {
+                cell,
+                section,
+                index,
+            } => Ok(Op::RestoreCell {
+                cell: *cell,
+                section: *section,
+                index: *index,
+            }),
+            Op::MoveCell {
+                cell,
+                section,
+                index,
+            } => Ok(Op::MoveCell {
+                cell: *cell,
+                section: *section,
+                index: *index,
+            }),
             Op::Delta { cell, base, delta } => Ok(Op::Delta {
                 cell: *cell,
                 base: *base,
                 delta: delta.copy(alloc)?,
             }),
+            Op::Report { cell, rev } => Ok(Op::Report {
+                cell: *cell,
+                rev: *rev,
+            }),
             Op::Queue { cell } => Ok(Op::Queue { cell: *cell }),
+            Op::Cancel { cell } => Ok(Op::Cancel { cell: *cell }),
         }
     }
 }
@@ -58,11 +185,25 @@ pub enum Refusal {
     NotJoined,
     /// The client has joined already.
     AlreadyJoined,
-    /// No live cell has the number.
+    /// No live cell has the number; none in the bin for a restore; it is the setup cell, which can
+    /// be neither deleted nor moved.
     NoCell,
+    /// No live section has the number, or the given parent's.
+    NoSection,
     /// The cell is no code: a Markdown cell. The setup cell counts as code.
     NotCode,
-    /// The base is above the cell's present revision `now`.
+    /// The place is above `len`, the number of sections or of the section's cells after what moves
+    /// is taken out.
+    BadIndex { len: u64 },
+    /// A branch would not stand after its parent, or a parent would have a parent.
+    BadParent,
+    /// Some section branches from this one.
+    HasBranches,
+    /// The notebook has no room for another cell, or another code cell.
+    TooManyCells,
+    /// The notebook has no room for another section.
+    TooManySections,
+    /// The base, or the revision that is reported, is above the cell's present revision `now`.
     TooNew { now: u64 },
     /// The base is below the least revision `kept` that some joined client may still build on.
     TooOld { kept: u64 },
@@ -72,6 +213,8 @@ pub enum Refusal {
     SplitsPair { at: u64 },
     /// The cell stands on `cell`, which is evaluated and shows a fault.
     AncestorFailed { cell: CellId },
+    /// The cell is neither queued nor running.
+    NotQueued,
 }
 
 /// The session's answer to a call.
@@ -81,6 +224,10 @@ pub enum Reply {
     Accepted,
     /// The delta was applied, as `delta` says; the cell has now the revision `rev`.
     Applied { rev: u64, delta: Delta },
+    /// The notebook has a new cell of this number.
+    NewCell { cell: CellId },
+    /// The notebook has a new section of this number.
+    NewSection { section: SectionId },
     /// The evaluation of the number `eval` has begun, of the cell.
     Started { eval: u64, cell: CellId },
     /// What the evaluation showed is the cell's now.

@@ -2,7 +2,7 @@
 use notebook::{CellId, Notebook};
 use plain_list::Items;
 
-/// A session's notebook at one moment: with the revision of each live cell, in notebook order, and
+/// A session's notebook at one moment: with the revision of each live cell, each once, and
 /// the number of entries that the history had.
 #[derive(Debug, Drop)]
 pub struct Snapshot {

@@ -10,9 +10,9 @@ use Rattle.notebook.specs.declared.parts.Parts.{Parts}
 use Rattle.notebook.specs.declared.parts.Kind.{Kind}
 use Rattle.notebook.specs.declared.parts.Kind.TheVariants.{Setup, Code, Markdown}
 use Rattle.session_ops.specs.declared.entry.Refusal.{Refusal}
-use Rattle.session_ops.specs.declared.entry.Refusal.TheVariants.{NotJoined, AlreadyJoined, NoCell, NotCode, TooNew, TooOld, PastEnd, SplitsPair, AncestorFailed}
+use Rattle.session_ops.specs.declared.entry.Refusal.TheVariants.{NotJoined, AlreadyJoined, NoCell, NoSection, NotCode, BadIndex, BadParent, HasBranches, TooManyCells, TooManySections, TooNew, TooOld, PastEnd, SplitsPair, AncestorFailed, NotQueued}
 use Rattle.session_ops.specs.declared.entry.Reply.{Reply}
-use Rattle.session_ops.specs.declared.entry.Reply.TheVariants.{Accepted, Applied, Started, Stored, Late, Refused}
+use Rattle.session_ops.specs.declared.entry.Reply.TheVariants.{Accepted, Applied, NewCell, NewSection, Started, Stored, Late, Refused}
 
 -- a text as a compact JSON string
 abbrev pub text_of : List ℕ → List ℕ
@@ -23,16 +23,25 @@ abbrev pub refusal_text : Refusal → List ℕ
 refusal_text NotJoined = codes "NotJoined"
 refusal_text AlreadyJoined = codes "AlreadyJoined"
 refusal_text NoCell = codes "NoCell"
+refusal_text NoSection = codes "NoSection"
 refusal_text NotCode = codes "NotCode"
+refusal_text (BadIndex len) = codes "BadIndex " ++ decimal len
+refusal_text BadParent = codes "BadParent"
+refusal_text HasBranches = codes "HasBranches"
+refusal_text TooManyCells = codes "TooManyCells"
+refusal_text TooManySections = codes "TooManySections"
 refusal_text (TooNew now) = codes "TooNew " ++ decimal now
 refusal_text (TooOld kept) = codes "TooOld " ++ decimal kept
 refusal_text (PastEnd len) = codes "PastEnd " ++ decimal len
 refusal_text (SplitsPair at) = codes "SplitsPair " ++ decimal at
 refusal_text (AncestorFailed cell) = codes "AncestorFailed " ++ decimal cell
+refusal_text NotQueued = codes "NotQueued"
 
 abbrev pub reply_text : Reply → List ℕ
 reply_text Accepted = codes "ok"
 reply_text (Applied rev x) = codes "accepted rev " ++ decimal rev
+reply_text (NewCell cell) = codes "cell " ++ decimal cell
+reply_text (NewSection section) = codes "section " ++ decimal section
 reply_text (Started eval cell) = codes "eval " ++ (decimal eval ++ (codes " cell " ++ decimal cell))
 reply_text (Stored eval) = codes "stored " ++ decimal eval
 reply_text (Late eval) = codes "late " ++ decimal eval

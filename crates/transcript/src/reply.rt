@@ -15,12 +15,19 @@ pub fn push_refusal(out: &mut String, refusal: &Refusal) -> Result<(), AllocErro
         Refusal::NotJoined => push_plain(out, "NotJoined"),
         Refusal::AlreadyJoined => push_plain(out, "AlreadyJoined"),
         Refusal::NoCell => push_plain(out, "NoCell"),
+        Refusal::NoSection => push_plain(out, "NoSection"),
         Refusal::NotCode => push_plain(out, "NotCode"),
+        Refusal::BadIndex { len } => push_named(out, "BadIndex ", len),
+        Refusal::BadParent => push_plain(out, "BadParent"),
+        Refusal::HasBranches => push_plain(out, "HasBranches"),
+        Refusal::TooManyCells => push_plain(out, "TooManyCells"),
+        Refusal::TooManySections => push_plain(out, "TooManySections"),
         Refusal::TooNew { now } => push_named(out, "TooNew ", now),
         Refusal::TooOld { kept } => push_named(out, "TooOld ", kept),
         Refusal::PastEnd { len } => push_named(out, "PastEnd ", len),
         Refusal::SplitsPair { at } => push_named(out, "SplitsPair ", at),
         Refusal::AncestorFailed { cell } => push_named(out, "AncestorFailed ", cell),
+        Refusal::NotQueued => push_plain(out, "NotQueued"),
     }
 }
 
@@ -31,6 +38,8 @@ pub fn push_reply(out: &mut String, reply: &Reply) -> Result<(), AllocError>
     match reply {
         Reply::Accepted => push_plain(out, "ok"),
         Reply::Applied { rev, .. } => push_named(out, "accepted rev ", *rev),
+        Reply::NewCell { cell } => push_named(out, "cell ", *cell),
+        Reply::NewSection { section } => push_named(out, "section ", *section),
         Reply::Started { eval, cell } => push_started(out, *eval, *cell),
         Reply::Stored { eval } => push_named(out, "stored ", *eval),
         Reply::Late { eval } => push_named(out, "late ", *eval),

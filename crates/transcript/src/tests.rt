@@ -20,10 +20,22 @@ fn refusals(rt: HostRuntime) -> Result<(), Fail> {
         (Refusal::NotJoined, "refused NotJoined"),
         (Refusal::AlreadyJoined, "refused AlreadyJoined"),
         (Refusal::NoCell, "refused NoCell"),
+        (Refusal::NoSection, "refused NoSection"),
+        (Refusal::NotCode, "refused NotCode"),
+        (Refusal::BadIndex { len: 3 }, "refused BadIndex 3"),
+        (Refusal::BadParent, "refused BadParent"),
+        (Refusal::HasBranches, "refused HasBranches"),
+        (Refusal::TooManyCells, "refused TooManyCells"),
+        (Refusal::TooManySections, "refused TooManySections"),
         (Refusal::TooNew { now: 0 }, "refused TooNew 0"),
         (Refusal::TooOld { kept: 2 }, "refused TooOld 2"),
         (Refusal::PastEnd { len: 4 }, "refused PastEnd 4"),
         (Refusal::SplitsPair { at: 2 }, "refused SplitsPair 2"),
+        (
+            Refusal::AncestorFailed { cell: 9 },
+            "refused AncestorFailed 9",
+        ),
+        (Refusal::NotQueued, "refused NotQueued"),
     ];
     for (refusal, want) in &table {
         assert_eq!(rt;
@@ -51,6 +63,22 @@ fn replies(rt: HostRuntime) -> Result<(), Fail> {
         reply_text(alloc, &applied)?.as_str(),
         "accepted rev 18446744073709551615"
     );
+    Ok(())
+}
+
+#[test]
+fn replies_with_numbers(rt: HostRuntime) -> Result<(), Fail> {
+    let alloc = rt.alloc();
+    let table = [
+        (Reply::NewCell { cell: 12 }, "cell 12"),
+        (Reply::NewSection { section: 3 }, "section 3"),
+        (Reply::Started { eval: 3, cell: 2 }, "eval 3 cell 2"),
+        (Reply::Stored { eval: 0 }, "stored 0"),
+        (Reply::Late { eval: 7 }, "late 7"),
+    ];
+    for (reply, want) in &table {
+        assert_eq!(rt; reply_text(alloc, reply)?.as_str(), *want);
+    }
     Ok(())
 }
 

@@ -1,12 +1,17 @@
+mod Worked
 pub mod Apart
+pub mod Born
+pub mod Changing
 pub mod Clients
 pub mod Editing
+pub mod Floors
 pub mod Heard
 pub mod Honest
 pub mod Keeping
 pub mod Mirroring
 pub mod Moving
 pub mod Next
+pub mod Outboxes
 pub mod Pendings
 pub mod Playing
 pub mod Receiving
@@ -14,4 +19,3 @@ pub mod Sample
 pub mod Standing
 pub mod Taking
 pub mod Texts
-mod Worked

@@ -1,15 +1,17 @@
 -- Clients in memory, one by one in the order of those that they stand for.
 use Rattle.std.proofs.Common.{◌≡◌, ℕ, zero, suc, ◌+◌, ◌<◌, ◌≤◌, ◌==◌, true, false, if◌then◌else◌, List, [], ◌∷◌, ◌++◌, length, take, get_or, set, map, Some, None, refl, sym, ap, subst, ◌∙◌, arith, add-one}
+use Rattle.std.specs.List.{remove}
 use Rattle.std.proofs.lemmas.Bool.{eqb-true, eq-eqb}
 use Rattle.std.proofs.lemmas.List.{take_all}
 use Rattle.notebook.specs.declared.parts.Parts.{Parts}
-use Rattle.session_ops.specs.Work.{is_in}
+use Rattle.session_ops.specs.Numbers.{is_in}
 use Rattle.session_ops.proofs.Members.{in-here, in-later}
-use Rattle.client_sync.specs.Client.{Client as Holder, client_of, put_client}
+use Rattle.client_sync.specs.Client.{Client as Holder, client_of, put_client, without_client}
 use Rattle.client_sync.specs.declared.client.Client.{Client}
 use Rattle.client_sync.specs.Stands.{Mirrors}
 use Rattle.world.specs.Claims.{number_of}
-use Rattle.world.specs.Plays.{AreMirrors, AreApart, IsHolderAt}
+use Rattle.world.specs.Sound.{AreApart}
+use Rattle.world.specs.Plays.{AreMirrors, IsHolderAt}
 
 -- one more at the end
 pub mirrors-append : (n0 : Parts) (cs : List Client) (ms : List Holder) (c : Client) (m : Holder) → AreMirrors n0 cs ms → Mirrors n0 c m → AreMirrors n0 (cs ++ c ∷ []) (ms ++ m ∷ [])
@@ -132,3 +134,43 @@ nobody-at-all n0 cs ms n i all past none =
     let len : length cs ≡ length ms = mirrors-length n0 cs ms all in
     let le : length ms ≤ i = omega (arith, past, len) in
     sym (ap (client_of n) (take_all i ms le)) ∙ none
+
+-- the client of a number taken out, where no number stands twice
+without-none : (n : ℕ) (ms : List Holder) → client_of n ms ≡ None → without_client n ms ≡ ms
+without-none n [] none = refl
+without-none n (m ∷ ms) none =
+    elim (m.number == n)
+    as (λ b. (if b then Some m else client_of n ms) ≡ None → (if b then without_client n ms else m ∷ without_client n ms) ≡ m ∷ ms)
+    [ true ↦ λ k. absurd (cc k) | false ↦ λ k. ap (λ r. m ∷ r) (without-none n ms k) ]
+    none
+
+absent-none : (n : ℕ) (ms : List Holder) → is_in n (map number_of ms) ≡ false → client_of n ms ≡ None
+absent-none n [] e = refl
+absent-none n (m ∷ ms) e =
+    elim (m.number == n)
+    as (λ b. (if b then true else is_in n (map number_of ms)) ≡ false → (if b then Some m else client_of n ms) ≡ None)
+    [ true ↦ λ k. absurd (cc k) | false ↦ λ k. absent-none n ms k ]
+    e
+
+without-parts : (n : ℕ) (front : List Holder) (m : Holder) (back : List Holder) → m.number ≡ n → client_of n front ≡ None → AreApart (map number_of (front ++ m ∷ back)) → without_client n (front ++ m ∷ back) ≡ front ++ back
+without-parts n [] m back same none apart = ap (λ b. if b then without_client n back else m ∷ without_client n back) (eq-eqb m.number n same) ∙ without-none n back (absent-none n back (subst (λ i. is_in i (map number_of back) ≡ false) same apart.0))
+without-parts n (f ∷ front) m back same none apart =
+    elim (f.number == n)
+    as (λ b. (if b then Some f else client_of n front) ≡ None → (if b then without_client n (front ++ m ∷ back) else f ∷ without_client n (front ++ m ∷ back)) ≡ f ∷ (front ++ back))
+    [ true ↦ λ k. absurd (cc k) | false ↦ λ k. ap (λ r. f ∷ r) (without-parts n front m back same k apart.1) ]
+    none
+
+pub without-at : (n : ℕ) (ms : List Holder) (at : ℕ) → (p : IsHolderAt n ms at) → AreApart (map number_of ms) → without_client n ms ≡ p.front ++ p.back
+without-at n ms at p apart = ap (without_client n) p.parts ∙ without-parts n p.front p.here p.back p.number p.first (subst (λ k. AreApart (map number_of k)) p.parts apart)
+
+pub without-nobody : (n : ℕ) (ms : List Holder) → client_of n ms ≡ None → without_client n ms ≡ ms
+without-nobody n ms none = without-none n ms none
+
+mirrors-cut : (n0 : Parts) (cs : List Client) (front : List Holder) (m : Holder) (back : List Holder) → AreMirrors n0 cs (front ++ m ∷ back) → AreMirrors n0 (remove cs (length front)) (front ++ back)
+mirrors-cut n0 [] [] m back all = absurd all
+mirrors-cut n0 [] (f ∷ front) m back all = absurd all
+mirrors-cut n0 (y ∷ cs) [] m back all = all.1
+mirrors-cut n0 (y ∷ cs) (f ∷ front) m back all = (all.0, mirrors-cut n0 cs front m back all.1)
+
+pub mirrors-removed : (n0 : Parts) (cs : List Client) (ms : List Holder) (n at : ℕ) → AreMirrors n0 cs ms → (p : IsHolderAt n ms at) → AreMirrors n0 (remove cs at) (p.front ++ p.back)
+mirrors-removed n0 cs ms n at all p = subst (λ i. AreMirrors n0 (remove cs i) (p.front ++ p.back)) (sym p.place) (mirrors-cut n0 cs p.front p.here p.back (subst (AreMirrors n0 cs) p.parts all))

@@ -1,13 +1,21 @@
 -- The pending edits of a client, and the messages in its outbox, by cells.
-use Rattle.std.proofs.Common.{◌≡◌, ℕ, ◌==◌, Bool, true, false, if◌then◌else◌, List, [], ◌∷◌, ◌++◌, Some, None, refl, sym, ap, ◌∙◌, arith}
+use Rattle.std.proofs.Common.{◌≡◌, ℕ, ◌==◌, true, false, if◌then◌else◌, List, [], ◌∷◌, ◌++◌, Option, Some, None, refl, sym, ap, ◌∙◌, arith, append_assoc}
 use Rattle.std.proofs.lemmas.Bool.Decides.{nat_tests}
 use Rattle.std.proofs.lemmas.Bool.{eq-eqb}
 use Rattle.delta.specs.declared.Step.{Step}
 use Rattle.session_ops.specs.declared.entry.Op.{Op}
-use Rattle.session_ops.specs.declared.entry.Op.TheVariants.{Join, Delta, Queue}
+use Rattle.session_ops.specs.declared.entry.Op.TheVariants.{Delta, Report}
+use Rattle.delta.specs.Moves.{transformed}
 use Rattle.client_sync.specs.Client.{Pending, pending_of, all_moved, without}
-use Rattle.world.specs.Waiting.{Message, messages_for}
-use Rattle.world.proofs.Keeping.{shifted, shifted_option}
+use Rattle.world.specs.Waiting.{Edits, Reports, message_in, messages_for}
+
+-- another's delta moves what is pending
+abbrev pub shifted : List Step → Pending → Pending
+shifted x p = record p { flight = transformed false x p.flight; buffer = transformed false (transformed true p.flight x) p.buffer }
+
+abbrev pub shifted_option : List Step → Option Pending → Option Pending
+shifted_option x None = None
+shifted_option x (Some p) = Some (shifted x p)
 
 pub shifted-same : (j : ℕ) (x : List Step) (ps : List Pending) → pending_of j (all_moved j x ps) ≡ shifted_option x (pending_of j ps)
 shifted-same j x [] = refl
@@ -62,18 +70,18 @@ pub pending-beside : (k : ℕ) (ps : List Pending) (q : Pending) → (q.cell == 
 pending-beside k [] q ne = ap (λ b. if b then Some q else None) ne
 pending-beside k (p ∷ ps) q ne = ap (λ r. if p.cell == k then Some p else r) (pending-beside k ps q ne)
 
-more-of : (b : Bool) (m : Message) (xs ys : List Message) → (if b then m ∷ (xs ++ ys) else xs ++ ys) ≡ (if b then m ∷ xs else xs) ++ ys
-more-of true m xs ys = refl
-more-of false m xs ys = refl
-
 pub messages-append : (k : ℕ) (xs ys : List Op) → messages_for k (xs ++ ys) ≡ messages_for k xs ++ messages_for k ys
 messages-append k [] ys = refl
-messages-append k (Join ∷ xs) ys = messages-append k xs ys
-messages-append k (Queue cell ∷ xs) ys = messages-append k xs ys
-messages-append k (Delta cell base d ∷ xs) ys = rw (messages-append k xs ys) (more-of (cell == k) (record { base = base; delta = d }) (messages_for k xs) (messages_for k ys))
+messages-append k (op ∷ xs) ys = ap (λ ms. message_in k op ++ ms) (messages-append k xs ys) ∙ sym (append_assoc (message_in k op) (messages_for k xs) (messages_for k ys))
 
-pub message-here : (k base : ℕ) (d : List Step) (ops : List Op) → messages_for k (Delta k base d ∷ ops) ≡ record { base = base; delta = d } ∷ messages_for k ops
-message-here k base d ops = ap (λ b. if b then record { base = base; delta = d } ∷ messages_for k ops else messages_for k ops) (eq-eqb k k refl)
+pub edit-here : (k base : ℕ) (d : List Step) → message_in k (Delta k base d) ≡ Edits base d ∷ []
+edit-here k base d = ap (λ b. if b then Edits base d ∷ [] else []) (eq-eqb k k refl)
 
-pub message-beside : (j k base : ℕ) (d : List Step) (ops : List Op) → (j == k) ≡ false → messages_for k (Delta j base d ∷ ops) ≡ messages_for k ops
-message-beside j k base d ops ne = ap (λ b. if b then record { base = base; delta = d } ∷ messages_for k ops else messages_for k ops) ne
+pub edit-beside : (j k base : ℕ) (d : List Step) → (j == k) ≡ false → message_in k (Delta j base d) ≡ []
+edit-beside j k base d ne = ap (λ b. if b then Edits base d ∷ [] else []) ne
+
+pub report-here : (k rev : ℕ) → message_in k (Report k rev) ≡ Reports rev ∷ []
+report-here k rev = ap (λ b. if b then Reports rev ∷ [] else []) (eq-eqb k k refl)
+
+pub report-beside : (j k rev : ℕ) → (j == k) ≡ false → message_in k (Report j rev) ≡ []
+report-beside j k rev ne = ap (λ b. if b then Reports rev ∷ [] else []) ne

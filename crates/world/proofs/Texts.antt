@@ -5,7 +5,7 @@ use Rattle.delta.specs.Moves.{FitsText, text_after, transformed, composed}
 use Rattle.delta_laws.specs.Laws.{IsPairMoved}
 use Rattle.delta_laws.proofs.Laws.{delta_laws}
 use Rattle.client_sync.specs.Client.{Pending, after_buffer, with_pending}
-use Rattle.world.proofs.Keeping.{shifted}
+use Rattle.world.proofs.Pendings.{shifted}
 use Rattle.world.proofs.Editing.{with_buffer, buffer-text}
 
 -- with nothing pending an edit is in flight, and is seen

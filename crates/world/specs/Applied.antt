@@ -3,7 +3,7 @@ use Rattle.std.specs.Prelude.{◌≡◌, ℕ, ◌==◌, ◌&&◌, Bool, false, i
 use Rattle.std.specs.List.{AllByRecursion}
 use Rattle.delta.specs.declared.Step.{Step}
 use Rattle.delta.specs.Moves.{FitsText, text_after}
-use Rattle.session_ops.specs.declared.entry.Op.TheVariants.{Delta}
+use Rattle.session_ops.specs.declared.entry.Op.TheVariants.{Leave, Delta}
 use Rattle.session_ops.specs.declared.entry.Call.{Call}
 use Rattle.session_ops.specs.declared.entry.Call.TheVariants.{Client as ByClient}
 use Rattle.session_ops.specs.declared.entry.Reply.{Reply}
@@ -31,6 +31,15 @@ is_own n cell e = is_own_call n cell e.call e.reply
 -- none of the entries applied a delta of the number to the cell
 abbrev pub HasNoOwn : ℕ → ℕ → List Entry → Type 0
 HasNoOwn n cell es = AllByRecursion (λ e. is_own n cell e ≡ false) es
+
+-- whether a call is the number's leaving
+abbrev pub is_leaving : ℕ → Call → Bool
+is_leaving n (ByClient m Leave) = m == n
+is_leaving n call = false
+
+-- none of the entries is the number's leaving
+abbrev pub HasNotLeft : ℕ → List Entry → Type 0
+HasNotLeft n es = AllByRecursion (λ e. is_leaving n e.call ≡ false) es
 
 -- a text after some deltas, one after the other
 abbrev pub text_after_each : List ℕ → List (List Step) → List ℕ

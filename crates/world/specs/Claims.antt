@@ -1,11 +1,14 @@
 -- What holds in a world, whatever has happened.
-use Rattle.std.specs.Prelude.{◌≡◌, ◌≢◌, ℕ, List, [], ◌++◌, length, map, Some}
+use Rattle.std.specs.Prelude.{◌≡◌, ◌≢◌, ℕ, true, List, [], ◌++◌, length, Some}
 use Rattle.std.specs.List.{AllByRecursion}
 use Rattle.session_ops.specs.declared.entry.Op.{Op}
 use Rattle.session_ops.specs.declared.entry.Call.TheVariants.{Client as ByClient}
 use Rattle.session_ops.specs.declared.entry.Refusal.TheVariants.{NotJoined}
 use Rattle.session_ops.specs.declared.entry.Reply.TheVariants.{Refused}
 use Rattle.session_ops.specs.declared.entry.Entry.{Entry}
+use Rattle.notebook.specs.declared.parts.Parts.{Parts}
+use Rattle.notebook.specs.Rules.{IsNotebook}
+use Rattle.session_ops.specs.Numbers.{is_in}
 use Rattle.session_ops.specs.State.{Legal, state, reply}
 use Rattle.client_sync.specs.Client.{Client, client_of, held}
 use Rattle.world.specs.World.{World}
@@ -25,10 +28,15 @@ IsUnderZero e = e.by ≡ 0
 abbrev pub IsOfOneSeat : World → Type 0
 IsOfOneSeat w = AllByRecursion IsUnderZero w.history
 
--- the history is legal, those that joined are those that hold a client, in one order, and each client has received a front of the history
+-- the session has a client's number among those that joined
+abbrev pub HasJoined : Parts → List Entry → Client → Type 0
+HasJoined n0 h c = is_in c.number (state n0 h).joined ≡ true
+
+-- the session opened with a notebook that keeps the rules, the history is legal, the number of each client has joined, and each client has received a front of the history
 pub record IsWhole (w : World) : Type 0 where
+  pub notebook : IsNotebook w.opening
   pub legal : Legal w.opening w.history
-  pub joined : (state w.opening w.history).joined ≡ map number_of w.clients
+  pub joined : AllByRecursion (HasJoined w.opening w.history) w.clients
   pub behind : AllByRecursion (IsBehind w.history) w.clients
 
 -- no message of a client is answered as a stranger's

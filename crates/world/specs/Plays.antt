@@ -1,15 +1,14 @@
 -- A world in memory stands for a session and its clients.
-use Rattle.std.specs.Prelude.{◌≡◌, ◌≤◌, ℕ, false, List, [], ◌∷◌, ◌++◌, length, map, take, Option, Some, None}
+use Rattle.std.specs.Prelude.{◌≡◌, ◌≤◌, ℕ, List, [], ◌∷◌, ◌++◌, length, take, Option, Some, None}
 use Rattle.notebook.specs.declared.parts.Parts.{Parts}
 use Rattle.session_ops.specs.declared.entry.Entry.{Entry}
-use Rattle.session_ops.specs.Work.{is_in}
 use Rattle.client_sync.specs.Client.{Client as Holder, Edited, Done, NoCell, EditTooLong, Unfit, client_of, held, received_entry}
 use Rattle.client_sync.specs.declared.client.Client.{Client}
 use Rattle.client_sync.specs.Stands.{Mirrors}
 use Rattle.session_core.specs.Session.{IsSession, history_of}
 use Rattle.world.specs.World.{World as Course}
-use Rattle.world.specs.Claims.{IsWhole, DoAgree, AreHeard, number_of}
-use Rattle.world.specs.Waiting.{AreHonest, AreApplied}
+use Rattle.world.specs.Claims.{IsWhole, DoAgree, AreHeard}
+use Rattle.world.specs.Waiting.{AreHonest, AreFair}
 use Rattle.world.specs.declared.world.World.{World}
 
 -- the clients in memory stand for these, one by one in the same order
@@ -54,21 +53,15 @@ edited_or_same m NoCell = m
 edited_or_same m EditTooLong = m
 edited_or_same m (Unfit why) = m
 
+-- the client that a report leaves; one of a cell that it doesn't hold leaves it as it was
+abbrev pub reported_or_same : Holder → Option Holder → Holder
+reported_or_same m None = m
+reported_or_same m (Some d) = d
+
 -- the client after the first of the entries that it has not received, if there is one
 abbrev pub received_first : Parts → Holder → List Entry → Holder
 received_first n0 m [] = m
 received_first n0 m (e ∷ es) = received_entry n0 m e
-
--- no number stands twice
-abbrev pub AreApart : List ℕ → Type 0
-AreApart [] = Unit {0}
-AreApart (n ∷ ns) = (is_in n ns ≡ false) × AreApart ns
-
--- what the next event may rely on: the history is legal, each client stands as it should, and no number holds two
-pub record IsSound (w : Course) : Type 0 where
-  pub whole : IsWhole w
-  pub honest : AreHonest w
-  pub apart : AreApart (map number_of w.clients)
 
 -- a client in memory has received the history up to its cursor, and holds what that makes of the opening notebook with its own pending edits done to it
 pub record HoldsFront (n0 : Parts) (h : List Entry) (c : Client) (m : Holder) : Type 0 where
@@ -91,5 +84,5 @@ pub record IsRun (book : Parts) (w : Course) (x : World) : Type 0 where
   pub hold : DoHold w.opening w.history x.clients.items w.clients
   pub agree : DoAgree w
   pub honest : AreHonest w
-  pub applied : AreApplied w
+  pub fair : AreFair w
   pub heard : AreHeard w

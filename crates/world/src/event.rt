@@ -1,34 +1,51 @@
-//! What can happen.
+//! What may happen in a world.
 use delta::Delta;
 use notebook::CellId;
 use session_ops::Op;
 
-/// One thing that happens in a world. One that can't happen changes nothing.
+/// Something that happens. One that can't happen changes nothing.
 #[derive(Debug, Drop)]
 pub enum Event {
-    /// The number asks to join. Where the session accepts it, it holds a client from then on, which
-    /// has received all up to and with its own joining. Where the session refuses it, the entry
-    /// stands in the history and nothing else changes.
+    /// The number joins; where it is accepted it holds a client from then on.
     Join {
         client: u32,
     },
-    /// The client edits its own text of a cell. It changes nothing where the client refuses it.
+    /// The number leaves; its client is gone, with its outbox.
+    Leave {
+        client: u32,
+    },
+    /// The number's client edits a cell of its own notebook.
     Edit {
         client: u32,
         cell: CellId,
         delta: Delta,
     },
-    /// The client puts a message at its outbox's end. Joins and deltas can't be posted so.
+    /// The number's client puts an operation into its outbox. Joins, leaves, deltas and reports can't
+    /// be posted so.
     Post {
         client: u32,
         op: Op,
     },
-    /// The server takes the message at the front of the client's outbox and answers it.
+    /// The number's client puts a report of its revision of a cell into its outbox.
+    Report {
+        client: u32,
+        cell: CellId,
+    },
+    /// The session takes the message at the front of the outbox of the number's client.
     Take {
         client: u32,
     },
-    /// The client receives the next entry of the history.
+    /// The number's client receives the next entry of the history.
     Receive {
         client: u32,
+    },
+    /// The number joins without a client.
+    RawJoin {
+        client: u32,
+    },
+    /// A call of a number that holds no client.
+    Raw {
+        client: u32,
+        op: Op,
     },
 }

@@ -2,17 +2,17 @@
 ghost use Rattle.std.specs.Prelude.{◌≡◌, ◌<◌, ℕ, List, [], ◌∷◌, ◌++◌, drop, length, None, Some, IfOk, IfSome, OnOk};
 ghost use Rattle.std.specs.Option.{option_copied};
 ghost use Rattle.notebook.specs.declared.parts.Parts.{Parts};
-ghost use Rattle.notebook.specs.Flow.{IsUnbranched};
-ghost use Rattle.session_ops.specs.declared.entry.Op.TheVariants.{Queue};
+ghost use Rattle.session_ops.specs.declared.entry.Call.TheVariants.{Client as ByClient};
 ghost use Rattle.session_ops.specs.declared.entry.Entry.{Entry};
-ghost use Rattle.client_sync.specs.Client.{Client as Holder, edited, client_of, joined_client};
-ghost use Rattle.client_sync.specs.Stands.{Mirrors, IsNextEntry};
-ghost use Rattle.world.specs.World.{World as Course, first_world, happens, run, with_joined};
-ghost use Rattle.world.specs.Plays.{AreMirrors, Plays, IsHeldBy, IsPlaceOf, IsSound, IsRun, edited_or_same, received_first};
-ghost use Rattle.world.specs.declared.event.Event.TheVariants.{Join, Edit, Post, Take, Receive};
+ghost use Rattle.client_sync.specs.Client.{Client as Holder, edited, reported, client_of, joined_client, with_message};
+ghost use Rattle.client_sync.specs.Stands.{Mirrors, IsNextEntry, IsPostable};
+ghost use Rattle.world.specs.World.{World as Course, first_world, called, once_gone, happens, run, with_joined};
+ghost use Rattle.world.specs.Sound.{IsApart, IsSound};
+ghost use Rattle.world.specs.Plays.{AreMirrors, Plays, IsHeldBy, IsPlaceOf, IsRun, edited_or_same, reported_or_same, received_first};
+ghost use Rattle.world.specs.declared.event.Event.TheVariants.{Join, Leave, Edit, Post, Report, Take, Receive, RawJoin, Raw};
 
 use crate::event::Event;
-use client_sync::{Client, EditError};
+use client_sync::{Client, EditError, PostError};
 use delta::Delta;
 use notebook::{CellId, Notebook};
 use session_core::Session;
@@ -26,11 +26,10 @@ pub struct World {
     clients: Vec<Client>,
 }
 
-/// What a list of events, one after the other, makes of a session that opens with a notebook without
-/// branches. An event that can't happen changes nothing: a client's where the number holds no client,
-/// a take from an empty outbox, a receipt past the history's end.
+/// What a list of events, one after the other, makes of a session that opens with a notebook. An event
+/// that can't happen changes nothing: a client's where the number holds no client, a raw call where it
+/// holds one, a take from an empty outbox, a receipt past the history's end.
 pub fn run(alloc: Global, book: Notebook, events: Vec<Event>) -> Result<World, AllocError>
-    requires { IsUnbranched book }
     ensures { IfOk result (IsRun book (run book events.items)) }
 {
     let mut world = World::open(alloc, book)?;
@@ -60,7 +59,6 @@ impl World {
 
     /// A session without clients.
     fn open(alloc: Global, book: Notebook) -> Result<World, AllocError>
-        requires { IsUnbranched book }
         ensures { IfOk result (Plays (first_world book)) }
     {
         let session = Session::new(alloc, book)?;
@@ -76,14 +74,39 @@ impl World {
     {
         match event {
             Event::Join { client } => self.join(alloc, *client),
+            Event::Leave { client } => self.leave(*client),
             Event::Edit {
                 client,
                 cell,
                 delta,
             } => self.edit(*client, *cell, delta),
-            Event::Post { client, op } => self.post(*client, op),
+            Event::Post { client, op } => self.post(alloc, *client, op),
+            Event::Report { client, cell } => self.report(*client, *cell),
             Event::Take { client } => self.take(*client),
             Event::Receive { client } => self.receive(*client),
+            Event::RawJoin { client } => self.call(*client, Op::Join),
+            Event::Raw { client, op } => self.call_raw(alloc, *client, op),
+        }
+    }
+
+    /// A number makes a call.
+    fn call(&mut self, number: u32, op: Op) -> Result<(), AllocError>
+        ensures { (w : Course) → Plays w self.old → OnOk result (Plays (called w (ByClient number op)) self.new) }
+    {
+        self.session.apply(0, number, op)?;
+        Ok(())
+    }
+
+    /// A number that holds no client makes a call.
+    fn call_raw(&mut self, alloc: Global, number: u32, op: &Op) -> Result<(), AllocError>
+        ensures { (w : Course) → Plays w self.old → OnOk result (Plays (happens w (Raw number op.now)) self.new) }
+    {
+        match place_of(&self.clients, number) {
+            Some(_) => Ok(()),
+            None => {
+                let op = op.copy(alloc)?;
+                self.call(number, op)
+            }
         }
     }
 
@@ -115,6 +138,27 @@ impl World {
         Ok(())
     }
 
+    /// A number leaves, and its client is gone with its outbox.
+    fn leave(&mut self, number: u32) -> Result<(), AllocError>
+        ensures { (w : Course) → IsSound w → Plays w self.old → OnOk result (Plays (happens w (Leave number)) self.new) }
+    {
+        self.call(number, Op::Leave)?;
+        self.dismiss(number);
+        Ok(())
+    }
+
+    /// The number's client is gone.
+    fn dismiss(&mut self, number: u32)
+        ensures { (w : Course) → IsApart w → Plays w self.old → Plays (once_gone number w) self.new }
+    {
+        match place_of(&self.clients, number) {
+            None => {}
+            Some(place) => {
+                self.clients.remove(place);
+            }
+        }
+    }
+
     /// A number's client edits its own text of a cell.
     fn edit(&mut self, number: u32, cell: CellId, delta: &Delta) -> Result<(), AllocError>
         ensures { (w : Course) → IsSound w → Plays w self.old → OnOk result (Plays (happens w (Edit number cell delta.now)) self.new) }
@@ -126,22 +170,37 @@ impl World {
     }
 
     /// A number's client posts a message, but for those that can't be posted.
-    fn post(&mut self, number: u32, op: &Op) -> Result<(), AllocError>
+    fn post(&mut self, alloc: Global, number: u32, op: &Op) -> Result<(), AllocError>
         ensures { (w : Course) → IsSound w → Plays w self.old → OnOk result (Plays (happens w (Post number op.now)) self.new) }
     {
-        match op {
-            Op::Join | Op::Delta { .. } => Ok(()),
-            Op::Queue { cell } => self.queue(number, *cell),
+        if op.is_postable() {
+            self.post_message(alloc, number, op)
+        } else {
+            Ok(())
         }
     }
 
-    /// A number's client asks for a cell.
-    fn queue(&mut self, number: u32, cell: CellId) -> Result<(), AllocError>
-        ensures { (w : Course) → IsSound w → Plays w self.old → OnOk result (Plays (happens w (Post number (Queue cell))) self.new) }
+    /// A number's client posts a message.
+    fn post_message(&mut self, alloc: Global, number: u32, op: &Op) -> Result<(), AllocError>
+        requires { IsPostable op.now }
+        ensures { (w : Course) → IsSound w → Plays w self.old → OnOk result (Plays (happens w (Post number op.now)) self.new) }
     {
         match place_of(&self.clients, number) {
             None => Ok(()),
-            Some(place) => self.clients[place].post(Op::Queue { cell }),
+            Some(place) => {
+                let op = op.copy(alloc)?;
+                self.clients[place].post(op)
+            }
+        }
+    }
+
+    /// A number's client reports its revision of a cell.
+    fn report(&mut self, number: u32, cell: CellId) -> Result<(), AllocError>
+        ensures { (w : Course) → IsSound w → Plays w self.old → OnOk result (Plays (happens w (Report number cell)) self.new) }
+    {
+        match place_of(&self.clients, number) {
+            None => Ok(()),
+            Some(place) => report_own(&mut self.clients[place], cell),
         }
     }
 
@@ -191,6 +250,16 @@ fn edit_own(client: &mut Client, cell: CellId, delta: &Delta) -> Result<(), Allo
 {
     match client.edit(cell, delta) {
         Err(EditError::OutOfMemory) => Err(AllocError),
+        _ => Ok(()),
+    }
+}
+
+/// A client reports its revision of a cell; where it has no such cell it stays as it was.
+fn report_own(client: &mut Client, cell: CellId) -> Result<(), AllocError>
+    ensures { (n0 : Parts) (m : Holder) → Mirrors n0 client.old m → OnOk result (Mirrors n0 client.new (reported_or_same m (reported n0 m cell))) }
+{
+    match client.post_report(cell) {
+        Err(PostError::OutOfMemory) => Err(AllocError),
         _ => Ok(()),
     }
 }

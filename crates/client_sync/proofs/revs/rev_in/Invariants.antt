@@ -1,7 +1,7 @@
 use Rattle.std.proofs.Common.{◌≡◌, drop}
-use Rattle.client_sync.specs.Revisions.{rev_among}
+use Rattle.session_ops.specs.Snapshot.{listed_revision}
 use Rattle.client_sync.proofs.revs.rev_in.Given as goal
 
 -- the cell's revision is among those that are left
 abbrev pub invariant-loop-id : goal.invariant-loop-id
-invariant-loop-id l = rev_among l.revs l.cell ≡ rev_among (drop l.id-index l.revs) l.cell
+invariant-loop-id l = listed_revision l.cell l.revs ≡ listed_revision l.cell (drop l.id-index l.revs)

@@ -1,4 +1,4 @@
-use Rattle.std.proofs.Common.{refl, arith, subst}
+use Rattle.std.proofs.Common.{arith, subst}
 use Rattle.client_sync.specs.Stands.{Mirrors}
 use Rattle.driver.proofs.Receiving.{next-of, put-next, received-all, first-all}
 use Rattle.driver.proofs.clients.deliver_all.Goals as goal

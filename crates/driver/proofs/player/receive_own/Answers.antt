@@ -1,4 +1,3 @@
-use Rattle.std.proofs.Common.{refl, ◌∙◌}
 use Rattle.driver.proofs.Looking.{received-some}
 use Rattle.driver.proofs.player.receive_own.Goals as goal
 

@@ -1,6 +1,6 @@
 use Rattle.std.proofs.Common.{◌≡◌, ◌++◌, drop, string_bytes}
 use Rattle.notebook.specs.declared.parts.Parts.{Parts}
-use Rattle.session_ops.specs.Work.{Work}
+use Rattle.lanes.specs.declared.work.Work.{Work}
 use Rattle.driver.specs.Statuses.{Tells}
 use Rattle.transcript.specs.Texts.{as_text}
 use Rattle.driver.specs.Statuses.{AllHavePaths, code_lines}

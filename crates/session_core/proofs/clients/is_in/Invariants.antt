@@ -1,5 +1,5 @@
 use Rattle.std.proofs.Common.{◌≡◌, drop}
-use Rattle.session_ops.specs.Work.{is_in}
+use Rattle.session_ops.specs.Numbers.{is_in}
 use Rattle.session_core.proofs.clients.is_in.Given as goal
 
 -- whether the client is among those that are left

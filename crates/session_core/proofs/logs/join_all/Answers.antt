@@ -1,27 +1,46 @@
-use Rattle.std.proofs.Common.{◌≡◌, ◌+◌, ◌≤◌, length, set, get_or, suc, sym, subst, ◌∙◌, arith, refl}
-use Rattle.session_core.specs.Logs.{AreLogsPast, IsCellLog, IsLiveIn, once_joined}
+use Rattle.std.proofs.Common.{◌≡◌, ◌+◌, ◌<◌, ◌≤◌, length, set, get_or, suc, sym, subst, ap, ◌∙◌, arith}
+use Rattle.session_ops.specs.State.{State}
+use Rattle.session_core.specs.Logs.{ArePast, IsLogIn, once_joined}
 use Rattle.session_core.specs.declared.logs.CellLog.{CellLog}
-use Rattle.session_core.proofs.LogLaws.{opened, all-past}
+use Rattle.session_core.proofs.LogLaws.{cells-set, past-at, past-forth, past-stay, past-all}
+use Rattle.session_core.proofs.Owners.{found-some}
 use Rattle.session_core.proofs.logs.join_all.Goals as goal
 
 pub loop-at-preserved : goal.loop-at-preserved
-loop-at-preserved c = λ s cs out a h.
-    let t = once_joined c.args.client s in
+loop-at-preserved c =
     let at = c.loop-at.at in
-    let o = opened (IsLiveIn s) t s at cs c.loop-at.logs c.index-logs-at.result a (c.loop-at.invariant s cs out a h) (omega arith) c.index-logs-at.is in
-    let k = subst (IsCellLog s o.cell) c.index-logs-at.is o.holds in
-    let up : suc at ≡ at + 1 = omega arith in
-    let l : CellLog = record { cell = (get_or c.loop-at.logs at c.index-logs-at.result).cell; log = c.joined.new.self } in
-    subst (λ n. AreLogsPast t s n cs (set c.loop-at.logs at l)) up (o.forth l (record { cell = k.cell; log = c.in_default.ensures.ok s o.cell.id o.cell.source k.log out o.has }))
+    let ls = c.loop-at.logs in
+    let x = c.index-logs-at.result in
+    let lt : at < length ls = omega arith in
+    let l : CellLog = record { cell = (get_or ls at x).cell; log = c.joined.new.self } in (
+      cells-set ls at x l lt c.index-logs-at.is (ap (λ (y : CellLog). y.cell) (sym c.index-logs-at.is)) ∙ c.loop-at.invariant.0,
+      λ s out h.
+          let t : State = once_joined c.args.client s in
+          let k : IsLogIn s (get_or ls at x) = subst (IsLogIn s) c.index-logs-at.is (past-at (IsLogIn t) (IsLogIn s) at ls x (c.loop-at.invariant.1 s out h) lt c.index-logs-at.is) in
+          let up : suc at ≡ at + 1 = omega arith in
+          subst (λ n. ArePast (IsLogIn t) (IsLogIn s) n (set ls at l)) up (past-forth (IsLogIn t) (IsLogIn s) at ls l (c.loop-at.invariant.1 s out h) lt (record { owner = k.owner; is_found = k.is_found; stands = c.in_default.ensures.ok s _ k.owner.source k.stands out (found-some _ k.owner k.is_found) })),
+    )
 
 pub returns-in-Err-clause-err : goal.returns-in-Err-clause-err
-returns-in-Err-clause-err c = λ s cs out a h.
-    let t = once_joined c.args.client s in
-    let o = opened (IsLiveIn s) t s c.loop-at.at cs c.loop-at.logs c.index-logs-at.result a (c.loop-at.invariant s cs out a h) (omega arith) c.index-logs-at.is in
-    let k = subst (IsCellLog s o.cell) c.index-logs-at.is o.holds in
-    c.leave_first.ensures.logs s cs out a (o.stay _ (record { cell = k.cell; log = c.in-Err.ensures.err s o.cell.id o.cell.source k.log }))
+returns-in-Err-clause-err c = λ s out h.
+    let at = c.loop-at.at in
+    let ls = c.loop-at.logs in
+    let x = c.index-logs-at.result in
+    let lt : at < length ls = omega arith in
+    let t : State = once_joined c.args.client s in
+    let k : IsLogIn s (get_or ls at x) = subst (IsLogIn s) c.index-logs-at.is (past-at (IsLogIn t) (IsLogIn s) at ls x (c.loop-at.invariant.1 s out h) lt c.index-logs-at.is) in
+    c.leave_first.ensures.logs s out (past-stay (IsLogIn t) (IsLogIn s) at ls _ (c.loop-at.invariant.1 s out h) lt (record { owner = k.owner; is_found = k.is_found; stands = c.in-Err.ensures.err s _ k.owner.source k.stands }))
+
+pub returns-in-Err-clause-cells : goal.returns-in-Err-clause-cells
+returns-in-Err-clause-cells c =
+    let at = c.loop-at.at in
+    let ls = c.loop-at.logs in
+    let x = c.index-logs-at.result in
+    let lt : at < length ls = omega arith in
+    let l : CellLog = record { cell = (get_or ls at x).cell; log = c.joined.new.self } in
+    c.leave_first.ensures.cells ∙ (cells-set ls at x l lt c.index-logs-at.is (ap (λ (y : CellLog). y.cell) (sym c.index-logs-at.is)) ∙ c.loop-at.invariant.0)
 
 pub returns-clause-ok : goal.returns-clause-ok
-returns-clause-ok c = λ s cs out a h.
+returns-clause-ok c = λ s out h.
     let up : length c.loop-at.logs ≤ c.loop-at.at = omega arith in
-    all-past (once_joined c.args.client s) s c.loop-at.at cs c.loop-at.logs (c.loop-at.invariant s cs out a h) up
+    past-all (IsLogIn (once_joined c.args.client s)) (IsLogIn s) c.loop-at.at c.loop-at.logs (c.loop-at.invariant.1 s out h) up

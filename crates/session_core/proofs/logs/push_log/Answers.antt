@@ -1,7 +1,7 @@
-use Rattle.std.proofs.Common.{◌≡◌, ◌++◌, ◌∷◌, [], refl, sym, subst, ◌∙◌}
+use Rattle.std.proofs.Common.{◌++◌, ◌∷◌, [], refl, sym, subst, ◌∙◌}
 use Rattle.session_ops.specs.State.{opening}
 use Rattle.revisions.specs.Stands.{StandsFor}
-use Rattle.session_core.specs.Logs.{AreLogs}
+use Rattle.session_core.specs.Logs.{LineUp}
 use Rattle.session_core.specs.declared.logs.CellLog.{CellLog}
 use Rattle.session_core.proofs.LogLaws.{logs-more}
 use Rattle.session_core.proofs.logs.push_log.Goals as goal
@@ -12,4 +12,4 @@ returns c = λ n before begins h.
     let log : StandsFor (opening n) x.id c.in_ok-copy.field-0 c.in_ok-log.log = c.in_ok-log.ensures (opening n) x.id refl (begins ∙ sym c.in_ok-copy.ensures) refl (λ m. refl) in
     let l : CellLog = record { cell = x.id; log = c.in_ok-log.log } in
     let more = logs-more (opening n) before c.args.logs.now.items x l h (record { cell = refl; log = subst (λ t. StandsFor (opening n) x.id t c.in_ok-log.log) c.in_ok-copy.ensures log }) in
-    subst (AreLogs (opening n) (before ++ x ∷ [])) (sym c.in_ok-push.ensures.items) more
+    subst (LineUp (opening n) (before ++ x ∷ [])) (sym c.in_ok-push.ensures.items) more

@@ -1,4 +1,4 @@
-use Rattle.std.proofs.Common.{◌≡◌, ◌++◌, ◌∷◌, [], refl, sym, ap, subst, ◌∙◌, codes, string_bytes, None, Some}
+use Rattle.std.proofs.Common.{◌++◌, ◌∷◌, [], refl, ap, ◌∙◌, codes, string_bytes, None, Some}
 use Rattle.transcript.specs.Texts.{as_text}
 use Rattle.driver.specs.Lines.{no_client_words}
 use Rattle.driver.specs.Clients.{IsAt}

@@ -1,17 +1,16 @@
-use Rattle.std.proofs.Common.{◌≡◌, ◌<◌, slice_set, get_or, ◌++◌, ◌∷◌, [], length, refl, sym, ap, subst, ◌∙◌, codes, string_bytes, None, Some}
+use Rattle.std.proofs.Common.{◌≡◌, ◌<◌, slice_set, get_or, ◌++◌, ◌∷◌, [], refl, sym, ap, subst, ◌∙◌, codes, string_bytes, None, Some}
 use Rattle.std.specs.Vec.{vec_len}
-use Rattle.session_ops.specs.State.{Legal}
+use Rattle.driver.specs.Clients.{IsLawful}
 use Rattle.session_core.specs.Session.{history_of}
 use Rattle.world.specs.Waiting.{IsHonest}
 use Rattle.driver.specs.Standing.{HasReceivedSome}
-use Rattle.transcript.specs.Texts.{as_text, book_lines, rev_in}
+use Rattle.transcript.specs.Texts.{as_text}
 use Rattle.driver.specs.Lines.{no_client_words}
-use Rattle.driver.specs.Player.{how_many}
 use Rattle.driver.specs.Clients.{IsAt}
 use Rattle.driver.proofs.Placing.{within}
 use Rattle.driver.proofs.Still.{stands-placed, recv-nobody}
 use Rattle.driver.proofs.Still.{own-honest}
-use Rattle.driver.proofs.Looking.{recv-played}
+use Rattle.driver.proofs.Looking.{recv-played, stage-lawful}
 use Rattle.driver.proofs.player.Player.recv.Goals as goal
 
 pub index_mut-requires : goal.index_mut-requires
@@ -31,6 +30,6 @@ returns-in_ok-receive_own-in-Some c = λ g s nm st.
     (ap (λ p. slice_set p.clients.items c.in-Some.at c.receive_own.new.own) look.1)
     (
     subst (λ h. HasReceivedSome g c.args.count h is.own c.receive_own.new.own c.args.name.now (string_bytes c.args.out.now) (string_bytes c.receive_own.new.out)) eh
-    (c.in_ok-receive_own-in-Some.ensures g is.own (subst (Legal g.opening) (sym eh) st.whole.legal) (subst (λ h. IsHonest g.opening h is.own) (sym eh) (own-honest g c.args.self.now s c.args.client is.own st is.there))
+    (c.in_ok-receive_own-in-Some.ensures g is.own (subst (IsLawful g.opening) (sym eh) (stage-lawful g c.args.self.now s st)) (subst (λ h. IsHonest g.opening h is.own) (sym eh) (own-honest g c.args.self.now s c.args.client is.own st is.there))
     (is.mirrors c.index_mut.result.now (subst (λ p. c.index_mut.result.now ≡ get_or p.clients.items c.in-Some.at c.index_mut.result.now) look.1 c.index_mut.ensures.value)))
     )

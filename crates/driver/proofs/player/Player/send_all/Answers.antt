@@ -1,4 +1,4 @@
-use Rattle.std.proofs.Common.{◌≡◌, ◌++◌, ◌∷◌, [], length, refl, sym, ap, subst, ◌∙◌, codes, string_bytes, None, Some}
+use Rattle.std.proofs.Common.{refl, None, Some}
 use Rattle.driver.specs.Clients.{IsAt}
 use Rattle.driver.specs.Player.{send_all}
 use Rattle.driver.proofs.Placing.{within}

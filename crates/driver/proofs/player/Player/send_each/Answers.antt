@@ -1,4 +1,3 @@
-use Rattle.std.proofs.Common.{refl}
 use Rattle.driver.specs.Player.{Game, send_each}
 use Rattle.driver.proofs.Leading.{lead-none}
 use Rattle.driver.proofs.Sending.{each-next, each-end}

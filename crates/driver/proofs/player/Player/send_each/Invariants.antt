@@ -1,6 +1,6 @@
-use Rattle.std.proofs.Common.{◌≡◌, drop, string_bytes}
+use Rattle.std.proofs.Common.{drop, string_bytes}
 use Rattle.notebook.specs.declared.parts.Parts.{Parts}
-use Rattle.driver.specs.Player.{Game, Stage, send_each}
+use Rattle.driver.specs.Player.{Stage, send_each}
 use Rattle.driver.specs.Standing.{Stands, Leads}
 use Rattle.driver.proofs.player.Player.send_each.Given as goal
 

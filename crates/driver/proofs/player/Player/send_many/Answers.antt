@@ -1,4 +1,4 @@
-use Rattle.std.proofs.Common.{refl, arith}
+use Rattle.std.proofs.Common.{arith}
 use Rattle.driver.proofs.Sending.{sending-none, sending-next, sending-end}
 use Rattle.driver.proofs.player.Player.send_many.Goals as goal
 

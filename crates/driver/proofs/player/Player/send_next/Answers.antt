@@ -1,5 +1,4 @@
-use Rattle.std.proofs.Common.{◌≡◌, ◌++◌, ◌∷◌, [], refl, sym, ap, subst, ◌∙◌, None, Some}
-use Rattle.client_sync.specs.Stands.{HasTaken}
+use Rattle.std.proofs.Common.{refl, None, Some}
 use Rattle.driver.specs.Clients.{IsAt}
 use Rattle.driver.specs.Player.{send_next}
 use Rattle.driver.proofs.Placing.{within}

@@ -1,8 +1,6 @@
-use Rattle.std.proofs.Common.{◌≡◌, ◌++◌, ◌∷◌, [], length, refl, sym, ap, subst, ◌∙◌, codes, string_bytes, None, Some}
-use Rattle.std.specs.Vec.{vec_len}
-use Rattle.transcript.specs.Texts.{as_text, book_lines, rev_in}
+use Rattle.std.proofs.Common.{◌++◌, ◌∷◌, [], refl, ap, ◌∙◌, codes, string_bytes, None, Some}
+use Rattle.transcript.specs.Texts.{as_text}
 use Rattle.driver.specs.Lines.{no_client_words}
-use Rattle.driver.specs.Player.{how_many}
 use Rattle.driver.specs.Clients.{IsAt}
 use Rattle.driver.proofs.Placing.{within}
 use Rattle.driver.proofs.Still.{stands-placed, show-nobody, show-played}

@@ -1,7 +1,6 @@
-use Rattle.std.proofs.Common.{◌≡◌, refl, sym, ◌∙◌, true, false}
-use Rattle.driver.specs.Player.{Game, all_sent}
-use Rattle.driver.specs.Standing.{HasRound}
-use Rattle.driver.proofs.Looking.{IsSyncing, syncing-none, syncing-next, sync-played, sent-known}
+use Rattle.std.proofs.Common.{sym, ◌∙◌, true, false}
+use Rattle.driver.specs.Player.{Game}
+use Rattle.driver.proofs.Looking.{syncing-none, syncing-next, sync-played, sent-known}
 use Rattle.driver.proofs.player.Player.sync.Goals as goal
 
 pub loop-init : goal.loop-init

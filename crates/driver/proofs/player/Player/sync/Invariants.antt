@@ -1,4 +1,4 @@
-use Rattle.std.proofs.Common.{◌≡◌, string_bytes}
+use Rattle.std.proofs.Common.{string_bytes}
 use Rattle.notebook.specs.declared.parts.Parts.{Parts}
 use Rattle.driver.specs.Player.{Stage}
 use Rattle.driver.specs.Standing.{Stands}

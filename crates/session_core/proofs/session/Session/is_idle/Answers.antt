@@ -1,5 +1,5 @@
 use Rattle.std.proofs.Common.{◌≡◌}
-use Rattle.session_ops.specs.Work.{is_idle}
+use Rattle.lanes.specs.Work.{is_idle}
 use Rattle.session_core.proofs.ReaderLaws.{by-state}
 use Rattle.session_core.proofs.session.Session.is_idle.Goals as goal
 

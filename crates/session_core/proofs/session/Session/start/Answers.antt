@@ -1,27 +1,20 @@
-use Rattle.std.proofs.Common.{◌≡◌, ◌+◌, None, Some, refl, sym, subst, ap, ◌∙◌, arith}
-use Rattle.session_ops.specs.Work.{Work, may_start}
-use Rattle.notebook.specs.declared.states.Lane.TheVariants.{Main}
-use Rattle.notebook.specs.declared.parts.Parts.{Parts}
-use Rattle.main_lane.specs.Tracks.{Tracks}
-use Rattle.session_core.specs.Session.{state_of}
-use Rattle.session_core.proofs.LogLaws.{popped}
-use Rattle.session_core.proofs.ReaderLaws.{by-state}
-use Rattle.session_core.proofs.SessionLaws.{as-before, untouched, on-err}
-use Rattle.session_core.proofs.EvaluationLaws.{tried-session}
+use Rattle.std.proofs.Common.{◌≡◌, Some, sym}
+use Rattle.lanes.specs.Work.{may_start}
+use Rattle.notebook.specs.Before.{left}
+use Rattle.session_core.specs.Jobs.{IsAlongTo}
+use Rattle.session_core.proofs.EvaluationLaws.{has-lane, base-stands, along-to}
 use Rattle.session_core.proofs.session.Session.start.Goals as goal
 
-pub returns-in_default-clause-ok : goal.returns-in_default-clause-ok
-returns-in_default-clause-ok c = λ n0 is. (sym (by-state (λ n w. None ≡ may_start n w Main) n0 c.args.self.now is c.in_default.ensures), untouched n0 c.args.self.now c.args.self.now is refl refl refl refl refl)
+pub returns-in_default-before-clause-ok : goal.returns-in_default-before-clause-ok
+returns-in_default-before-clause-ok c = λ n0 is. absurd (has-lane n0 c.args.self.now c.args.lane c.in-Some.cell is (sym c.in-Some.ensures) c.in_default-before.ensures)
 
-pub returns-in_err-push-clause-err : goal.returns-in_err-push-clause-err
-returns-in_err-push-clause-err c = λ n0 is. on-err _ _ (untouched n0 c.args.self.now _ is c.in_err-push.ensures.items refl refl refl refl)
-
-pub returns-in-Ok-clause-ok : goal.returns-in-Ok-clause-ok
-returns-in-Ok-clause-ok c = λ n0 is.
+pub returns-clause-ok : goal.returns-clause-ok
+returns-clause-ok c = λ n0 is.
     let s = c.args.self.now in
-    tried-session n0 s _ c.args.by (c.started-eval.result + 1) c.in-Some.cell c.in-Ok.job is c.in-Some.ensures (λ n w t. ap (λ k. k + 1) (c.started-eval.ensures.count n w t)) c.in-Ok.ensures c.in_ok-push.ensures.items refl refl refl
-
-pub returns-in-Err-clause-err : goal.returns-in-Err-clause-err
-returns-in-Err-clause-err c = λ n0 is.
-    let s = c.args.self.now in
-    as-before n0 s _ is (popped s.history.items c.push.new.self.items c.pop.new.self.items _ _ c.in_ok-push.ensures.items (sym c.push.new.self.ok.0) c.pop.ensures.rest) refl refl is.logs (c.in-Err.ensures (state_of n0 s).work is.tracks)
+    let cell = c.in-Some.cell in
+    let b = c.in-Some-before.before in
+    let h = c.in-Some-before.ensures in
+    let may : may_start s.book s.work c.args.lane ≡ Some cell = sym c.in-Some.ensures in
+    let along : IsAlongTo s.book cell c.in_ok-source.source c.in_ok-base.base =
+    along-to s.book cell (left b.earlier) b.cell.now c.in_ok-source.source c.in_ok-base.base h.ahead h.number c.in_ok-source.ensures (c.in_ok-base.ensures (base-stands n0 s c.args.lane cell (left b.earlier) b.cell.now is may h.ahead h.number)) in
+    c.in_ok-job.ensures.ok n0 is may along

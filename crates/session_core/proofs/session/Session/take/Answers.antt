@@ -1,11 +1,13 @@
 use Rattle.std.proofs.Common.{◌≡◌, ◌+◌, Some, refl, sym, subst, ap, ◌∙◌, arith}
-use Rattle.notebook.specs.Book.{cells, with_source}
+use Rattle.notebook.specs.Book.{cells, found, with_source}
 use Rattle.session_ops.specs.State.{revision}
+use Rattle.revisions.specs.Stands.{StandsFor}
 use Rattle.session_core.specs.declared.logs.CellLog.{CellLog}
 use Rattle.session_core.specs.Session.{state_of}
 use Rattle.session_core.proofs.LogLaws.{popped}
+use Rattle.session_core.proofs.Owners.{placed, place-within, same-owner, put-back}
 use Rattle.session_core.proofs.SessionLaws.{as-before, untouched, on-err}
-use Rattle.session_core.proofs.DeltaLaws.{own, place-within, taken-session}
+use Rattle.session_core.proofs.SourceLaws.{taken-session}
 use Rattle.session_core.proofs.session.Session.take.Goals as goal
 
 pub index-requires : goal.index-requires
@@ -22,21 +24,26 @@ returns-in-Ok-clause-ok c = λ n0 x is member f m.
     let s = c.args.self.now in
     let st = state_of n0 s in
     let e = c.args.edit in
-    let read = own st e.cell c.args.at x (cells s.book) s.logs.items c.index.result.now is.logs c.requires c.index.ensures f in
-    let o = own st e.cell c.args.at x (cells s.book) s.logs.items c.index_mut.result.now is.logs c.requires c.index_mut.ensures.value f in
+    let read = placed st e.cell c.args.at s.logs.items c.index.result.now is.logs.logs c.requires c.index.ensures in
+    let own = placed st e.cell c.args.at s.logs.items c.index_mut.result.now is.logs.logs c.requires c.index_mut.ensures.value in
+    let there : found e.cell (cells st.book) ≡ Some x = subst (λ n. found e.cell (cells n) ≡ Some x) is.book f in
+    let stands : StandsFor st e.cell x.source c.index_mut.result.now.log = same-owner st e.cell x c.index_mut.result.now there own.named own.is in
+    let stands_read : StandsFor st e.cell x.source c.index.result.now.log = same-owner st e.cell x c.index.result.now there read.named read.is in
     let l : CellLog = record { cell = c.index_mut.result.now.cell; log = c.take.new.self } in
     let next : c.in-Some.rev ≡ c.rev.result + 1 = search arith in
-    let rev : c.in-Some.rev ≡ revision st e.cell + 1 = next ∙ ap (λ k. k + 1) (c.rev.ensures st e.cell x.source read.stands) in
-    taken-session n0 s _ c.args.by e.client e.cell e.base c.in-Some.rev c.args.at e.delta c.in_ok-kept.kept x c.args.moved c.in-Ok.accepted l is member f o.number m
-    (c.in-Ok.ensures st e.cell x e.base e.delta o.stands m) rev c.in_ok-kept.ensures c.requires o.named c.in_ok-push.ensures.items
-    (subst (λ t. c.set_source.new.self ≡ with_source e.cell t s.book) c.in_ok-source.ensures c.set_source.ensures.set) refl refl c.edited.ensures
+    let rev : c.in-Some.rev ≡ revision st e.cell + 1 = next ∙ ap (λ k. k + 1) (c.rev.ensures st e.cell x.source stands_read) in
+    taken-session n0 s _ c.args.by e.client e.cell e.base c.in-Some.rev c.args.at e.delta c.in_ok-kept.kept x c.args.moved c.in-Ok.accepted l is member f m
+    (c.in-Ok.ensures st e.cell x e.base e.delta stands m) rev c.in_ok-kept.ensures c.requires own.named c.in_ok-push.ensures.items
+    (subst (λ t. c.set_source.new.self ≡ with_source e.cell t s.book) c.in_ok-source.ensures c.set_source.ensures.set) refl refl c.sweep.ensures
 
 pub returns-in-Err-clause-err : goal.returns-in-Err-clause-err
 returns-in-Err-clause-err c = λ n0 x is member f m.
     let s = c.args.self.now in
     let st = state_of n0 s in
     let e = c.args.edit in
-    let o = own st e.cell c.args.at x (cells s.book) s.logs.items c.index_mut.result.now is.logs c.requires c.index_mut.ensures.value f in
+    let own = placed st e.cell c.args.at s.logs.items c.index_mut.result.now is.logs.logs c.requires c.index_mut.ensures.value in
+    let there : found e.cell (cells st.book) ≡ Some x = subst (λ n. found e.cell (cells n) ≡ Some x) is.book f in
+    let stands : StandsFor st e.cell x.source c.index_mut.result.now.log = same-owner st e.cell x c.index_mut.result.now there own.named own.is in
     let l : CellLog = record { cell = c.index_mut.result.now.cell; log = c.take.new.self } in
     as-before n0 s _ is (popped s.history.items c.push.new.self.items c.pop.new.self.items _ _ c.in_ok-push.ensures.items (sym c.push.new.self.ok.0) c.pop.ensures.rest) refl refl
-    (o.put l o.named (c.in-Err.ensures st e.cell x e.base e.delta o.stands m)) is.tracks
+    (put-back st e.cell c.args.at x s.logs.items l is.logs c.requires there own.named (c.in-Err.ensures st e.cell x e.base e.delta stands m)) refl

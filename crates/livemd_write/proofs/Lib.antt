@@ -1,0 +1,5 @@
+mod Blocks
+mod Keeping
+mod Pieces
+mod Tidying
+mod Trims

@@ -1,0 +1,6 @@
+use Rattle.std.proofs.Common.{◌≡◌, ◌++◌, drop, map}
+use Rattle.livemd_format.specs.Tidy.{changed, clean}
+use Rattle.livemd_write.proofs.cells.tidy_kept.Given as goal
+
+abbrev pub invariant-loop-line : goal.invariant-loop-line
+invariant-loop-line l = l.out ++ map (changed clean) (drop l.line-index l.before) ≡ map (changed clean) l.before

@@ -1,0 +1,6 @@
+use Rattle.std.proofs.Common.{◌≡◌, ◌++◌, drop, map}
+use Rattle.livemd_format.specs.Tidy.{tidy_saved}
+use Rattle.livemd_write.proofs.cells.tidy_saved.Given as goal
+
+abbrev pub invariant-loop-output : goal.invariant-loop-output
+invariant-loop-output l = l.out ++ map tidy_saved (drop l.output-index l.saved) ≡ map tidy_saved l.saved

@@ -1,0 +1,16 @@
+use Rattle.std.proofs.Common.{◌≡◌, lit<, map, ap, ◌∙◌}
+use Rattle.std.specs.List.{slice_split}
+use Rattle.std.proofs.lemmas.Iterator.Splits.{YieldsList-from_str_split}
+use Rattle.std.proofs.lemmas.Iterator.Consumers.{YieldsList-end}
+use Rattle.livemd_lines.specs.Lines.{drop_end, is_cr, is_lf}
+use Rattle.livemd_write.specs.Texts.{texts}
+use Rattle.livemd_write.proofs.Pieces.{pieces_on}
+use Rattle.livemd_write.proofs.texts.clean_pieces.Goals as goal
+
+pub loop-piece-preserved : goal.loop-piece-preserved
+loop-piece-preserved c = pieces_on _ _ _ _ _ c.loop-piece.invariant c.in_ok-push.ensures.items c.without_crs.ensures
+
+pub returns : goal.returns
+returns c =
+    let all : texts c.loop-piece.yielded ≡ slice_split is_lf c.args.text.now = (YieldsList-end (YieldsList-from_str_split 10 c.args.text.now (lit< tt) (cc) (cc) (cc)) c.loop-piece.yielded _ c.loop-piece.yielded_by _ _ c.in-None.is c.next.ensures.steps).0 in
+    c.loop-piece.invariant ∙ ap (map (drop_end is_cr)) all

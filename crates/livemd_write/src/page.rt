@@ -1,0 +1,287 @@
+//! The blocks of a notebook, put one behind the other, each behind an empty line.
+ghost use Rattle.std.specs.Prelude.{◌≡◌, ◌&&◌, ◌<◌, ◌≤◌, ◌++◌, ◌∷◌, [], false, encode_utf8_all, OnOk, string_bytes};
+ghost use Rattle.std.specs.List.{flat_map};
+ghost use Rattle.livemd_lines.specs.Lines.{is_empty};
+ghost use Rattle.livemd_lines.specs.Views.{kind_view, line_view, lines_view};
+ghost use Rattle.livemd_lines.specs.Written.{text_of_lines};
+ghost use Rattle.livemd_format.specs.Items.{is_code};
+ghost use Rattle.livemd_format.specs.Tidy.{is_markdown, number_from};
+ghost use Rattle.livemd_format.specs.Write.{blocks, branch_blocks, branch_line, break_blocks, cell_blocks, code_blocks, force, forced_lines, kept_blocks, line_block, markdown_block, needs_force, own_blocks, saved_blocks, section_blocks, setup_blocks};
+ghost use Rattle.livemd_write.specs.Pages.{Puts};
+
+use crate::cells::is_markdown;
+use crate::fences::push_fence;
+use itoa::Buffer;
+use livemd_lines::{Fence, Line, LineKind, Mark, lines};
+use notebook::{Cell, Parts, Saved, Section, SectionId};
+use std::alloc::{AllocError, Global};
+use utf16_text::Text;
+
+/// Puts a line as a block.
+fn push_line(out: &mut String, line: &str) -> Result<(), AllocError>
+    ensures ok { OnOk result (Puts (string_bytes out.old) (line_block line.now ∷ []) (string_bytes out.new)) }
+{
+    out.push_str("\n")?;
+    out.push_str(line)?;
+    out.push_str("\n")?;
+    Ok(())
+}
+
+/// Puts a heading with the mark as a block.
+fn push_heading(out: &mut String, mark: &str, name: &Text) -> Result<(), AllocError>
+    ensures ok { OnOk result (Puts (string_bytes out.old) (line_block (mark.now ++ encode_utf8_all name.now) ∷ []) (string_bytes out.new)) }
+{
+    out.push_str("\n")?;
+    out.push_str(mark)?;
+    out.push_str(name.as_str())?;
+    out.push_str("\n")?;
+    Ok(())
+}
+
+/// Puts kept lines, each as a block.
+fn push_kept(out: &mut String, before: &[Text]) -> Result<(), AllocError>
+    ensures ok { OnOk result (Puts (string_bytes out.old) (kept_blocks before.now) (string_bytes out.new)) }
+{
+    for line in before {
+        push_line(out, line.as_str())?;
+    }
+    Ok(())
+}
+
+/// Puts the branch line with the index as a block.
+fn push_branch_line(out: &mut String, index: u64) -> Result<(), AllocError>
+    ensures ok { OnOk result (Puts (string_bytes out.old) (line_block (branch_line index) ∷ []) (string_bytes out.new)) }
+{
+    let mut buffer = Buffer::new();
+    out.push_str("\n<!-- livebook:{\"branch_parent_index\":")?;
+    out.push_str(buffer.format(index))?;
+    out.push_str("} -->\n")?;
+    Ok(())
+}
+
+/// Puts a saved output.
+fn push_output(out: &mut String, output: &Saved) -> Result<(), AllocError>
+    ensures ok { OnOk result (Puts (string_bytes out.old) (saved_blocks output.now) (string_bytes out.new)) }
+{
+    push_line(out, "<!-- livebook:{\"output\":true} -->")?;
+    push_fence(out, output.info.as_str(), output.text.as_str())?;
+    Ok(())
+}
+
+/// Puts saved outputs.
+fn push_saved(out: &mut String, saved: &[Saved]) -> Result<(), AllocError>
+    ensures ok { OnOk result (Puts (string_bytes out.old) (flat_map saved_blocks saved.now) (string_bytes out.new)) }
+{
+    for output in saved {
+        push_output(out, output)?;
+    }
+    Ok(())
+}
+
+/// Puts code and its saved outputs.
+fn push_code(out: &mut String, cell: &Cell) -> Result<(), AllocError>
+    ensures ok { OnOk result (Puts (string_bytes out.old) (code_blocks cell.now) (string_bytes out.new)) }
+{
+    push_fence(out, "elixir", cell.source.as_str())?;
+    push_saved(out, cell.saved.as_slice())?;
+    Ok(())
+}
+
+/// Whether what stands in the fence is code.
+fn is_code(fence: Fence, info: &str) -> bool
+    ensures { result ≡ is_code fence info.now }
+{
+    matches!(fence.mark, Mark::Backtick) && info == "elixir"
+}
+
+/// Whether a line of the kind isn't read as text outside fences, unless it is forced.
+fn needs_force(kind: &LineKind<'_>) -> bool
+    ensures { result ≡ needs_force (kind_view kind.now) }
+{
+    match kind {
+        LineKind::Opens { fence, info } => is_code(*fence, info),
+        LineKind::Heading2(_) | LineKind::Metadata(_) => true,
+        _ => false,
+    }
+}
+
+/// Puts what a line of the kind needs before it.
+fn push_force(out: &mut String, kind: &LineKind<'_>) -> Result<(), AllocError>
+    ensures ok { OnOk result (string_bytes out.new ≡ string_bytes out.old ++ text_of_lines (force (kind_view kind.now))) }
+{
+    if !needs_force(kind) {
+        return Ok(());
+    }
+    out.push_str("<!-- livebook:{\"force_markdown\":true} -->\n\n")?;
+    Ok(())
+}
+
+/// Puts a line of Markdown text behind what it needs.
+fn push_forced(out: &mut String, line: &Line<'_>) -> Result<(), AllocError>
+    ensures ok { OnOk result (string_bytes out.new ≡ string_bytes out.old ++ text_of_lines (forced_lines (line_view line.now ∷ []))) }
+{
+    push_force(out, &line.kind)?;
+    out.push_str(line.text)?;
+    out.push_str("\n")?;
+    Ok(())
+}
+
+/// Puts the lines of Markdown text.
+fn push_lines(out: &mut String, lines: &[Line<'_>]) -> Result<(), AllocError>
+    ensures ok { OnOk result (string_bytes out.new ≡ string_bytes out.old ++ text_of_lines (forced_lines (lines_view lines.now))) }
+{
+    for line in lines {
+        push_forced(out, line)?;
+    }
+    Ok(())
+}
+
+/// Puts Markdown text as a block.
+fn push_markdown(alloc: Global, out: &mut String, source: &str) -> Result<(), AllocError>
+    ensures ok { OnOk result (Puts (string_bytes out.old) (markdown_block source.now ∷ []) (string_bytes out.new)) }
+{
+    let lines = lines(alloc, source)?;
+    out.push_str("\n")?;
+    push_lines(out, &lines)?;
+    Ok(())
+}
+
+/// Puts a cell's own blocks.
+fn push_own(alloc: Global, out: &mut String, cell: &Cell) -> Result<(), AllocError>
+    ensures ok { OnOk result (Puts (string_bytes out.old) (own_blocks cell.now) (string_bytes out.new)) }
+{
+    if is_markdown(cell.kind) {
+        push_markdown(alloc, out, cell.source.as_str())
+    } else {
+        push_code(out, cell)
+    }
+}
+
+/// Whether a cell needs a break before it where a Markdown cell stands there.
+fn needs_break(cell: &Cell) -> bool
+    ensures { result ≡ (is_markdown cell.now.kind && is_empty cell.now.before) }
+{
+    is_markdown(cell.kind) && cell.before.is_empty()
+}
+
+/// Puts a break between two Markdown cells where no kept line ends the first.
+fn push_break(out: &mut String, after_markdown: bool, cell: &Cell) -> Result<(), AllocError>
+    ensures ok { OnOk result (Puts (string_bytes out.old) (break_blocks after_markdown cell.now) (string_bytes out.new)) }
+{
+    if after_markdown && needs_break(cell) {
+        return push_line(out, "<!-- livebook:{\"break_markdown\":true} -->");
+    }
+    Ok(())
+}
+
+/// Puts a cell behind another one, or behind the section's heading.
+fn push_cell(
+    alloc: Global,
+    out: &mut String,
+    after_markdown: bool,
+    cell: &Cell,
+) -> Result<(), AllocError>
+    ensures ok { OnOk result (Puts (string_bytes out.old) (cell_blocks after_markdown (cell.now ∷ [])) (string_bytes out.new)) }
+{
+    push_break(out, after_markdown, cell)?;
+    push_kept(out, cell.before.as_slice())?;
+    push_own(alloc, out, cell)?;
+    Ok(())
+}
+
+/// Puts the cells of a section.
+fn push_cells(alloc: Global, out: &mut String, cells: &[Cell]) -> Result<(), AllocError>
+    ensures ok { OnOk result (Puts (string_bytes out.old) (cell_blocks false cells.now) (string_bytes out.new)) }
+{
+    let mut after_markdown = false;
+    for cell in cells {
+        push_cell(alloc, out, after_markdown, cell)?;
+        after_markdown = is_markdown(cell.kind);
+    }
+    Ok(())
+}
+
+/// Whether there is nothing of the setup cell.
+fn is_nothing(cell: &Cell) -> bool
+    ensures { result ≡ (is_empty cell.now.source && (is_empty cell.now.before && is_empty cell.now.saved)) }
+{
+    cell.source.is_empty() && cell.before.is_empty() && cell.saved.is_empty()
+}
+
+/// Puts the setup cell, unless there is nothing of it.
+fn push_setup(out: &mut String, cell: &Cell) -> Result<(), AllocError>
+    ensures ok { OnOk result (Puts (string_bytes out.old) (setup_blocks cell.now) (string_bytes out.new)) }
+{
+    if is_nothing(cell) {
+        return Ok(());
+    }
+    push_kept(out, cell.before.as_slice())?;
+    push_code(out, cell)?;
+    Ok(())
+}
+
+/// The index of the section with the number, from 0; how many there are if none has it.
+fn index_of(sections: &[Section], id: SectionId) -> u64
+    ensures { result ≡ number_from 0 id sections.now }
+{
+    let mut index: u64 = 0;
+    for section in sections {
+        if section.id == id {
+            return index;
+        }
+        index += 1;
+    }
+    index
+}
+
+/// Puts the branch line of a section with a parent.
+fn push_branch(
+    out: &mut String,
+    all: &[Section],
+    parent: Option<SectionId>,
+) -> Result<(), AllocError>
+    ensures ok { OnOk result (Puts (string_bytes out.old) (branch_blocks all.now parent) (string_bytes out.new)) }
+{
+    match parent {
+        None => Ok(()),
+        Some(parent) => push_branch_line(out, index_of(all, parent)),
+    }
+}
+
+/// Puts a section of these.
+fn push_section(
+    alloc: Global,
+    out: &mut String,
+    all: &[Section],
+    section: &Section,
+) -> Result<(), AllocError>
+    ensures ok { OnOk result (Puts (string_bytes out.old) (section_blocks all.now section.now) (string_bytes out.new)) }
+{
+    push_kept(out, section.before.as_slice())?;
+    push_branch(out, all, section.parent)?;
+    push_heading(out, "## ", &section.name)?;
+    push_cells(alloc, out, section.cells.as_slice())?;
+    Ok(())
+}
+
+/// Puts all sections.
+fn push_sections(alloc: Global, out: &mut String, all: &[Section]) -> Result<(), AllocError>
+    ensures ok { OnOk result (Puts (string_bytes out.old) (flat_map (section_blocks all.now) all.now) (string_bytes out.new)) }
+{
+    for section in all {
+        push_section(alloc, out, all, section)?;
+    }
+    Ok(())
+}
+
+/// Puts the blocks of a notebook.
+pub(crate) fn push_notebook(alloc: Global, out: &mut String, book: &Parts) -> Result<(), AllocError>
+    ensures ok { OnOk result (Puts (string_bytes out.old) (blocks book.now) (string_bytes out.new)) }
+{
+    push_kept(out, book.before.as_slice())?;
+    push_heading(out, "# ", &book.name)?;
+    push_setup(out, &book.setup)?;
+    push_sections(alloc, out, book.sections.as_slice())?;
+    push_kept(out, book.after.as_slice())?;
+    Ok(())
+}
