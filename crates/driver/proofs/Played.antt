@@ -16,7 +16,9 @@ use Rattle.script.specs.declared.line.ScriptLine.{ScriptLine}
 use Rattle.script.specs.declared.content.Content.{Content}
 use Rattle.transcript.specs.Texts.{as_text, ended_line, book_lines, rev_in}
 use Rattle.book_outside.specs.Outside.{AppendsAll}
-use Rattle.driver.specs.Turns.{Looked, turns_from, AreMarks}
+use Rattle.livemd_format.specs.declared.notices.Notice.{Notice}
+use Rattle.driver.specs.Lines.{notice_line}
+use Rattle.driver.specs.Turns.{Turn, Looked, turns_from, AreMarks}
 use Rattle.driver.specs.Player.{Game, Stage, or_none, say, play, play_line, settled, states_at}
 use Rattle.driver.specs.Transcript.{game, begun, stage_after, finished, ending, transcript, end_lines}
 use Rattle.driver.specs.Headline.{AllOfRun, AllAnswered, AllClients, IsHistory, IsPlayed, call_of}
@@ -137,6 +139,47 @@ end-printed n0 p x a b c is ea eb ec =
     let lines : book_lines (rev_in x.revs) x.book ≡ book_lines (revision st) st.book = ap (book_lines (rev_in x.revs)) is.book ∙ listed-lines st st.book x.revs is.revs (λ id e. e) in
     ec ∙ (ap (λ y. y ++ as_text (states_at st)) (eb ∙ (ap (λ y. y ++ as_text (book_lines (rev_in x.revs) x.book)) ea ∙ ap (λ ls. as_text (codes "end" ∷ []) ++ as_text ls) lines))
     ∙ (append_assoc (as_text (codes "end" ∷ [])) (as_text (book_lines (revision st) st.book)) (as_text (states_at st)) ∙ ap (λ y. as_text (codes "end" ∷ []) ++ y) (sym (flat_map-append ended_line (book_lines (revision st) st.book) (states_at st)))))
+
+-- one notice more
+pub notices-more : (xs : List Notice) (i : ℕ) (x : Notice) (a b : List ℕ) → i < length xs → b ≡ a ++ as_text (notice_line (get_or xs i x) ∷ []) → b ++ as_text (map notice_line (drop (i + 1) xs)) ≡ a ++ as_text (map notice_line (drop i xs))
+notices-more xs i x a b lt e =
+    let line : List ℕ = ended_line (notice_line (get_or xs i x)) in
+    let rest : List ℕ = as_text (map notice_line (drop (i + 1) xs)) in
+    ap (λ y. y ++ rest) e ∙ (append_assoc a (line ++ []) rest ∙ (ap (λ y. a ++ y) (append_assoc line [] rest) ∙ ap (λ ns. a ++ as_text (map notice_line ns)) (sym (drop_more xs i x lt))))
+
+-- the same with notices before it
+noticed-ending : (n0 : Parts) (notices : List (List ℕ)) (h : List Entry) (s : Stage) (ts : List Turn) (text : List ℕ) → ending n0 [] h s ts ≡ Some text → ending n0 notices h s ts ≡ Some (as_text notices ++ text)
+noticed-ending n0 notices h s [] text e =
+    let same : s.said ++ as_text (end_lines (state n0 h)) ≡ text = (cc) in
+    ap (λ t. Some (as_text notices ++ t)) same
+noticed-ending n0 notices h s (t ∷ ts) text e = absurd (cc)
+
+noticed-text : (n0 : Parts) (notices : List (List ℕ)) (h : List Entry) (o : Option Stage) (text : List ℕ) → or_none o (λ s. ending n0 [] h s s.turns) ≡ Some text → or_none o (λ s. ending n0 notices h s s.turns) ≡ Some (as_text notices ++ text)
+noticed-text n0 notices h None text e = absurd (cc)
+noticed-text n0 notices h (Some s) text e = noticed-ending n0 notices h s s.turns text e
+
+pub noticed : (n0 : Parts) (notices : List (List ℕ)) (content : Content) (h : List Entry) (marks : List ℕ) (text : List ℕ) → IsPlayed n0 [] content 0 h marks text → IsPlayed n0 notices content 0 h marks (as_text notices ++ text)
+noticed n0 notices content h marks text x =
+    record {
+      history = x.history;
+      printed = noticed-text n0 notices h (finished n0 content h marks) text x.printed;
+      stage = x.stage;
+      played = x.played;
+      calls = x.calls;
+      fair = x.fair;
+      clients = x.clients;
+      once = x.once;
+      evaluated = x.evaluated;
+    }
+
+-- the notices were written, and then what was played
+pub noticed-all : (n0 : Parts) (notices : List (List ℕ)) (content : Content) (p : Player) (w0 w1 w2 : Option (List ℕ)) → AppendsAll w0 (as_text notices) w1 → (text : List ℕ) × (IsPlayed n0 [] content 0 (entries_of p) p.marks text × AppendsAll w1 text w2)
+    → (text : List ℕ) × (IsPlayed n0 notices content 0 (entries_of p) p.marks text × AppendsAll w0 text w2)
+noticed-all n0 notices content p w0 w1 w2 w x = (as_text notices ++ x.0, (noticed n0 notices content (entries_of p) p.marks x.0 x.1.0, written-more w0 w1 w2 (as_text notices) x.0 w x.1.1))
+
+-- before anything was played
+pub fresh-history : (n0 : Parts) (p : Player) → IsFresh n0 p → IsHistory n0 0 (entries_of p) p.marks
+fresh-history n0 p fr = history-of (record { opening = n0; names = [] }) p _ (first-stands n0 [] p fr)
 
 -- what playing the lines gives, by their names and themselves
 abbrev pub LinesPlayed : Player → Player → Option (List ℕ) → Option (List ℕ) → List (List ℕ) → List ScriptLine → Type 0

@@ -20,10 +20,12 @@ use Rattle.world.specs.Waiting.{IsHonest}
 use Rattle.notebook.specs.Rules.{IsNotebook}
 use Rattle.world.proofs.Honest.{start-honest, respond-honest}
 use Rattle.world.proofs.Moving.{rest-replies}
-use Rattle.script.specs.declared.line.ScriptLine.TheVariants.{Settle, Cells}
+use Rattle.livemd_format.specs.Tidy.{tidied}
+use Rattle.livemd_format.specs.Write.{text_of}
+use Rattle.script.specs.declared.line.ScriptLine.TheVariants.{Settle, Cells, Book}
 use Rattle.transcript.specs.Texts.{as_text}
 use Rattle.driver.specs.Turns.{Looked, turns_from, AreMarks}
-use Rattle.driver.specs.Player.{Game, Stage, say, states_at}
+use Rattle.driver.specs.Player.{Game, Stage, say, say_text, states_at}
 use Rattle.driver.specs.Headline.{AllOfRun, IsEvaluation, call_of}
 use Rattle.driver.specs.Clients.{AreMirrored}
 use Rattle.driver.specs.Statuses.{Tells, status_lines}
@@ -85,9 +87,9 @@ all-joined : (n0 : Parts) (h h' : List Entry) (cs : List Holder) → (state n0 h
 all-joined n0 h h' [] e all = tt
 all-joined n0 h h' (c ∷ cs) e all = (ap (is_in c.number) e ∙ all.0, all-joined n0 h h' cs e all.1)
 
--- the player after evaluations and a look
-pub looked-stands : (g : Game) (p p' : Player) (s : Stage) (lines : List (List ℕ)) → Stands g p s → HasGoneOn g.opening 1 p.session p'.session → p'.clients ≡ p.clients → p'.marks ≡ p.marks ++ length (entries_of p') ∷ [] → Stands g p' (say lines (record s { turns = [] }))
-looked-stands g p p' s lines st gone ec em =
+-- the player after evaluations and a look, of which a text was printed
+looked-said : (g : Game) (p p' : Player) (s : Stage) (text : List ℕ) → Stands g p s → HasGoneOn g.opening 1 p.session p'.session → p'.clients ≡ p.clients → p'.marks ≡ p.marks ++ length (entries_of p') ∷ [] → Stands g p' (say_text text (record s { turns = [] }))
+looked-said g p p' s text st gone ec em =
     let h : List Entry = entries_of p in
     let h' : List Entry = entries_of p' in
     let more : length h ≤ length h' = rw (gone.history, length-append h gone.more) (omega arith) in
@@ -110,6 +112,9 @@ looked-stands g p p' s lines st gone ec em =
       apart = st.apart;
       mirrored = subst (λ v. AreMirrored g.opening v.items s.clients) (sym ec) st.mirrored;
     }
+
+pub looked-stands : (g : Game) (p p' : Player) (s : Stage) (lines : List (List ℕ)) → Stands g p s → HasGoneOn g.opening 1 p.session p'.session → p'.clients ≡ p.clients → p'.marks ≡ p.marks ++ length (entries_of p') ∷ [] → Stands g p' (say lines (record s { turns = [] }))
+looked-stands g p p' s lines st gone ec em = looked-said g p p' s (as_text lines) st gone ec em
 
 -- one turn more, and that a look
 pub looked-turns : (g : Game) (p p' : Player) (s : Stage) → Stands g p s → HasGoneOn g.opening 1 p.session p'.session → p'.marks ≡ p.marks ++ length (entries_of p') ∷ [] → turns_of p' ≡ turns_of p ++ Looked (entries_of p') ∷ []
@@ -163,6 +168,22 @@ cells-played g p p' s before out st gone ec em printed =
       acts = λ rest. refl;
       stands = looked-stands g p p' s (states_at (state g.opening (entries_of p'))) st gone ec em;
       piece = as_text (states_at (state g.opening (entries_of p')));
+      printed = printed;
+      said = refl;
+    }
+
+-- book
+pub book-played : (g : Game) (p p' : Player) (s : Stage) (before out : List ℕ) → Stands g p s → HasGoneOn g.opening 1 p.session p'.session → p'.clients ≡ p.clients → p'.marks ≡ p.marks ++ length (entries_of p') ∷ []
+    → out ≡ before ++ text_of (tidied (state g.opening (entries_of p')).book) → HasPlayed g Book p p' s before out
+book-played g p p' s before out st gone ec em printed =
+    let text : List ℕ = text_of (tidied (state g.opening (entries_of p')).book) in
+    record {
+      stage = say_text text (record s { turns = [] });
+      more = Looked (entries_of p') ∷ [];
+      grown = looked-turns g p p' s st gone em;
+      acts = λ rest. refl;
+      stands = looked-said g p p' s text st gone ec em;
+      piece = text;
       printed = printed;
       said = refl;
     }

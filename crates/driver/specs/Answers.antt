@@ -1,9 +1,13 @@
 -- What the parts of the program answer.
 use Rattle.std.specs.Prelude.{◌≡◌, ◌≢◌, ℕ, List, Option, Some, None, Result, Ok, Err}
-use Rattle.book_outside.specs.Outside.{Rose, GivesFront}
+use Rattle.book_outside.specs.Outside.{Rose, GivesFront, AppendsAll, AppendsFront}
+use Rattle.notebook.specs.declared.parts.Parts.{Parts}
+use Rattle.livemd_format.specs.Reads.{Reads}
+use Rattle.livemd_format.specs.Tidy.{tidied}
+use Rattle.livemd_format.specs.Write.{text_of}
 use Rattle.livemd_read.specs.declared.types.Read.{Read}
 use Rattle.livemd_read.specs.declared.types.BookError.TheVariants.{OutOfMemory as BookMemory}
-use Rattle.livemd_read.specs.Reads.{Reads, IsAccepted, IsBookCause}
+use Rattle.livemd_read.specs.Causes.{IsAccepted, IsBookCause}
 use Rattle.script.specs.declared.content.Content.{Content}
 use Rattle.script.specs.declared.error.ScriptError.TheVariants.{OutOfMemory as ScriptMemory}
 use Rattle.script.specs.Script.{IsScriptOf, IsScriptCause}
@@ -14,7 +18,7 @@ use Rattle.driver.specs.declared.play.Played.{Played}
 use Rattle.driver.specs.declared.play.Played.TheVariants.{Done, SinkFailed as PlayCut, OutOfMemory as PlayMemory}
 use Rattle.driver.specs.Program.{IsPlay, BookIsAccepted, most_bytes, status_of}
 
--- the words are in no form where there are no names
+-- the words don't ask to play where there are no names
 abbrev pub WordsAnswer : {A : Type 0} → List (List ℕ) → Option A → Type 0
 WordsAnswer words None = (book script : List ℕ) → ¬ IsPlay words book script
 WordsAnswer words (Some names) = Unit {0}
@@ -80,9 +84,20 @@ IsScriptAnswer held name sf sf' (Err (ScriptRefused why)) = WereRead held name (
 IsScriptAnswer held name sf sf' (Err SinkFailed) = ⊥
 IsScriptAnswer held name sf sf' (Err OutOfMemory) = Unit {0}
 
--- the words name this script, and their book was read
+-- the text of the tidy notebook was written: all of it, or a front of it where the sink failed
+abbrev pub IsWriting : Parts → ℕ → ℕ → Option (List ℕ) → Option (List ℕ) → Option RunFault → Type 0
+IsWriting n kf kf' before after None = AppendsAll before (text_of (tidied n)) after
+IsWriting n kf kf' before after (Some Usage) = ⊥
+IsWriting n kf kf' before after (Some BookUnread) = ⊥
+IsWriting n kf kf' before after (Some (BookRefused why)) = ⊥
+IsWriting n kf kf' before after (Some ScriptUnread) = ⊥
+IsWriting n kf kf' before after (Some (ScriptRefused why)) = ⊥
+IsWriting n kf kf' before after (Some SinkFailed) = Rose kf kf' × AppendsFront before (text_of (tidied n)) after
+IsWriting n kf kf' before after (Some OutOfMemory) = Unit {0}
+
+-- the words ask to play this script, and their book was read
 pub record HasReadBook (words : List (List ℕ)) (held : Option (List (List ℕ × List ℕ))) (script : List ℕ) (r : Read) : Type 0 where
   pub accepted : BookIsAccepted words held
-  pub script_name : accepted.read.script ≡ script
+  pub form : IsPlay words accepted.read.book script
   pub notebook : accepted.notebook ≡ r.notebook
   pub notices : accepted.notices ≡ r.notices

@@ -32,10 +32,10 @@ pub record EndsWritten (n0 : Parts) (old new : Player) (before after : Option (L
   pub ended : HasEnded n0 old new
   pub written : AppendsAll before (as_text (end_lines (state n0 (history_of new.session)))) after
 
--- the script was played, and its transcript written
-pub record IsPlayedOut (n0 : Parts) (content : Content) (before after : Option (List ℕ)) (report : Report) : Type 0 where
+-- the script was played, and its transcript written, which begins with the notices' lines
+pub record IsPlayedOut (n0 : Parts) (notices : List (List ℕ)) (content : Content) (before after : Option (List ℕ)) (report : Report) : Type 0 where
   pub text : List ℕ
-  pub played : IsPlayed n0 [] content 0 report.history report.marks text
+  pub played : IsPlayed n0 notices content 0 report.history report.marks text
   pub written : AppendsAll before text after
 
 -- the sink failed, and the history so far is legal
@@ -43,7 +43,7 @@ pub record IsCutOff (n0 : Parts) (faults faults' : ℕ) (report : Report) : Type
   pub history : IsHistory n0 0 report.history report.marks
   pub rose : Rose faults faults'
 
-abbrev pub IsPlayedSo : Parts → Content → ℕ → ℕ → Option (List ℕ) → Option (List ℕ) → Played → Type 0
-IsPlayedSo n0 content kf kf' before after (Done report) = IsPlayedOut n0 content before after report
-IsPlayedSo n0 content kf kf' before after (SinkFailed report) = IsCutOff n0 kf kf' report
-IsPlayedSo n0 content kf kf' before after OutOfMemory = Unit {0}
+abbrev pub IsPlayedSo : Parts → List (List ℕ) → Content → ℕ → ℕ → Option (List ℕ) → Option (List ℕ) → Played → Type 0
+IsPlayedSo n0 notices content kf kf' before after (Done report) = IsPlayedOut n0 notices content before after report
+IsPlayedSo n0 notices content kf kf' before after (SinkFailed report) = IsCutOff n0 kf kf' report
+IsPlayedSo n0 notices content kf kf' before after OutOfMemory = Unit {0}

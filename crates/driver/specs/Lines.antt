@@ -3,6 +3,9 @@ use Rattle.std.specs.Prelude.{ℕ, List, [], ◌++◌, Option, Some, None, codes
 use Rattle.std.specs.Fmt.{decimal}
 use Rattle.delta.specs.declared.Step.{Step}
 use Rattle.notebook.specs.declared.parts.Cell.{Cell}
+use Rattle.livemd_format.specs.declared.notices.Notice.{Notice}
+use Rattle.livemd_format.specs.declared.notices.NoticeKind.{NoticeKind}
+use Rattle.livemd_format.specs.declared.notices.NoticeKind.TheVariants.{BadBranch, Misplaced}
 use Rattle.session_ops.specs.State.{refusal_of, Past, Splits}
 use Rattle.session_ops.specs.declared.entry.Reply.{Reply}
 use Rattle.client_sync.specs.Client.{Pending}
@@ -10,6 +13,14 @@ use Rattle.client_sync.specs.declared.edit_error.EditError.{EditError}
 use Rattle.client_sync.specs.declared.edit_error.EditError.TheVariants.{NoCell, EditTooLong, PastEnd, SplitsPair, OutOfMemory}
 use Rattle.transcript.specs.Texts.{reply_text, refusal_text}
 use Rattle.transcript.specs.Deltas.{delta_text}
+
+-- a notice of the book, with the number of its line
+abbrev pub notice_word : NoticeKind → List ℕ
+notice_word BadBranch = codes "BadBranch"
+notice_word Misplaced = codes "Misplaced"
+
+abbrev pub notice_line : Notice → List ℕ
+notice_line n = codes "notice " ++ (decimal n.line ++ (codes " " ++ notice_word n.kind))
 
 abbrev pub joined_words : List ℕ → ℕ → List ℕ
 joined_words name at = name ++ (codes " joined at " ++ decimal at)

@@ -4,6 +4,8 @@ use Rattle.std.specs.Str.{encode_utf8_all}
 use Rattle.delta.specs.declared.Step.{Step}
 use Rattle.notebook.specs.declared.parts.Parts.{Parts}
 use Rattle.notebook.specs.Book.{cells, found}
+use Rattle.livemd_format.specs.Tidy.{tidied}
+use Rattle.livemd_format.specs.Write.{text_of}
 use Rattle.session_ops.specs.declared.entry.Op.{Op}
 use Rattle.session_ops.specs.declared.entry.Op.TheVariants.{Join as Joins, Leave as Leaves}
 use Rattle.session_ops.specs.declared.entry.Call.{Call}
@@ -19,7 +21,7 @@ use Rattle.client_sync.specs.Client.{Client, Edited, Done, NoCell, EditTooLong, 
 use Rattle.world.specs.Claims.{number_of}
 use Rattle.transcript.specs.Texts.{refusal_text, book_lines, as_text}
 use Rattle.script.specs.declared.line.ScriptLine.{ScriptLine}
-use Rattle.script.specs.declared.line.ScriptLine.TheVariants.{Join, Leave, Edit, Post, PostReport, Send, Recv, Sync, Show, Pending, RawJoin, Raw, Settle, Cells}
+use Rattle.script.specs.declared.line.ScriptLine.TheVariants.{Join, Leave, Edit, Post, PostReport, Send, Recv, Sync, Show, Pending, RawJoin, Raw, Settle, Cells, Book}
 use Rattle.script.specs.declared.line.Count.{Count}
 use Rattle.script.specs.declared.line.Count.TheVariants.{AtMost, All}
 use Rattle.driver.specs.Lines.{joined_words, not_joined_words, raw_joined_words, raw_not_joined_words, left_words, raw_words, raw_refused_words, no_client_words, edit_words, posted_words, not_posted_words, sent_words, nothing_words, received_words, sync_words, pending_answer, pending_words}
@@ -79,8 +81,12 @@ marked s (Made seen e ∷ rest) = None
 abbrev pub looks : Stage → Option Marked
 looks s = marked s s.turns
 
+-- lines are printed, or a text as it is
 abbrev pub say : List (List ℕ) → Stage → Stage
 say lines s = record s { said = s.said ++ as_text lines }
+
+abbrev pub say_text : List ℕ → Stage → Stage
+say_text text s = record s { said = s.said ++ text }
 
 abbrev pub with_clients : List Client → Stage → Stage
 with_clients cs s = record s { clients = cs }
@@ -272,6 +278,10 @@ states_at st = status_lines st.book st.work
 abbrev pub play_cells : Game → Stage → Option Stage
 play_cells g s = or_none (looks s) (λ m. Some (say (states_at (state_at g m)) m.stage))
 
+-- book: a look at the server's notebook, whose tidy form is printed as a book
+abbrev pub play_book : Game → Stage → Option Stage
+play_book g s = or_none (looks s) (λ m. Some (say_text (text_of (tidied (state_at g m).book)) m.stage))
+
 -- what a line makes of the stage; nothing where a turn doesn't fit
 abbrev pub play_line : Game → ScriptLine → Stage → Option Stage
 play_line g (Join n) s = play_join g n s
@@ -288,6 +298,7 @@ play_line g (RawJoin n) s = play_raw_join g n s
 play_line g (Raw n op) s = play_raw g n op s (client_of n s.clients)
 play_line g Settle s = play_settle g s
 play_line g Cells s = play_cells g s
+play_line g Book s = play_book g s
 
 abbrev pub play : Game → List ScriptLine → Stage → Option Stage
 play g [] s = Some s

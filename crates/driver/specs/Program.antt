@@ -1,18 +1,19 @@
 -- What the program answers.
-use Rattle.std.specs.Prelude.{◌≡◌, ◌≢◌, ℕ, List, [], ◌∷◌, ◌++◌, map, Option, Some, None, codes}
-use Rattle.std.specs.Fmt.{decimal}
-use Rattle.book_outside.specs.Outside.{Rose, GivesFront, AppendsAll}
+use Rattle.std.specs.Prelude.{◌≡◌, ◌≢◌, ℕ, ◌⊎◌, List, [], ◌∷◌, map, Option, Some, None, codes}
+use Rattle.book_outside.specs.Outside.{Rose, GivesFront, AppendsAll, AppendsFront}
 use Rattle.notebook.specs.declared.parts.Parts.{Parts}
-use Rattle.livemd_read.specs.declared.types.Notice.{Notice}
-use Rattle.livemd_read.specs.declared.types.NoticeKind.{NoticeKind}
-use Rattle.livemd_read.specs.declared.types.NoticeKind.TheVariants.{BadBranch, Misplaced}
+use Rattle.livemd_format.specs.declared.notices.Notice.{Notice}
+use Rattle.livemd_format.specs.Reads.{Reads}
+use Rattle.livemd_format.specs.Tidy.{tidied}
+use Rattle.livemd_format.specs.Write.{text_of}
 use Rattle.livemd_read.specs.declared.types.BookError.{BookError}
 use Rattle.livemd_read.specs.declared.types.BookError.TheVariants.{OutOfMemory as BookMemory}
-use Rattle.livemd_read.specs.Reads.{Reads, IsAccepted, IsBookCause}
+use Rattle.livemd_read.specs.Causes.{IsAccepted, IsBookCause}
 use Rattle.script.specs.declared.content.Content.{Content}
 use Rattle.script.specs.declared.error.ScriptError.{ScriptError}
 use Rattle.script.specs.declared.error.ScriptError.TheVariants.{OutOfMemory as ScriptMemory}
 use Rattle.script.specs.Script.{IsScriptOf, IsScriptCause}
+use Rattle.driver.specs.Lines.{notice_line}
 use Rattle.driver.specs.Headline.{IsHistory, IsPlayed}
 use Rattle.driver.specs.declared.outcome.Report.{Report}
 use Rattle.driver.specs.declared.outcome.RunFault.{RunFault}
@@ -21,6 +22,17 @@ use Rattle.driver.specs.declared.outcome.RunFault.TheVariants.{Usage, BookUnread
 -- the words `play BOOK SCRIPT`
 abbrev pub IsPlay : List (List ℕ) → List ℕ → List ℕ → Type 0
 IsPlay words book script = words ≡ codes "play" ∷ book ∷ script ∷ []
+
+-- the words `format BOOK`
+abbrev pub format_words : List ℕ → List (List ℕ)
+format_words book = codes "format" ∷ book ∷ []
+
+abbrev pub IsFormat : List (List ℕ) → List ℕ → Type 0
+IsFormat words book = words ≡ format_words book
+
+-- the words are in one of these forms, with this book
+abbrev pub NamesBook : List (List ℕ) → List ℕ → Type 0
+NamesBook words book = ((script : List ℕ) × IsPlay words book script) ⊎ IsFormat words book
 
 -- the status of a fault: its place in the list, counted from 1; 0 where there is none
 abbrev pub status_of : Option RunFault → ℕ
@@ -33,23 +45,14 @@ status_of (Some (ScriptRefused why)) = 5
 status_of (Some SinkFailed) = 6
 status_of (Some OutOfMemory) = 7
 
--- the printed line of a notice
-abbrev pub notice_word : NoticeKind → List ℕ
-notice_word BadBranch = codes "BadBranch"
-notice_word Misplaced = codes "Misplaced"
-
-abbrev pub notice_line : Notice → List ℕ
-notice_line n = codes "notice " ++ (decimal n.line ++ (codes " " ++ notice_word n.kind))
-
 -- at most this many bytes of a file are read, which is one more than a book or a script may have
 abbrev pub most_bytes : ℕ
 most_bytes = 8388609
 
--- the words are in the form, and the bytes of the book were read
+-- the words name a book, and its bytes were read
 pub record BookIsRead (words : List (List ℕ)) (held : Option (List (List ℕ × List ℕ))) : Type 0 where
   pub book : List ℕ
-  pub script : List ℕ
-  pub form : IsPlay words book script
+  pub named : NamesBook words book
   pub bytes : List ℕ
   pub front : GivesFront held book most_bytes bytes
 
@@ -61,11 +64,13 @@ pub record BookIsAccepted (words : List (List ℕ)) (held : Option (List (List �
   pub notices : List Notice
   pub reads : Reads read.bytes notebook notices
 
--- the bytes of the script were read too
+-- the words ask to play a script over the book, and the bytes of the script were read too
 pub record ScriptIsRead (words : List (List ℕ)) (held : Option (List (List ℕ × List ℕ))) : Type 0 where
   pub accepted : BookIsAccepted words held
+  pub script : List ℕ
+  pub form : IsPlay words accepted.read.book script
   pub bytes : List ℕ
-  pub front : GivesFront held accepted.read.script most_bytes bytes
+  pub front : GivesFront held script most_bytes bytes
 
 -- the bytes of the script are a script
 pub record ScriptIsAccepted (words : List (List ℕ)) (held : Option (List (List ℕ × List ℕ))) : Type 0 where
@@ -77,14 +82,15 @@ pub record ScriptIsAccepted (words : List (List ℕ)) (held : Option (List (List
 abbrev pub IsUnwritten : Option (List ℕ) → Option (List ℕ) → Type 0
 IsUnwritten before after = after ≡ before
 
--- status 1: the words are not in the form
-pub record HasBadWords (ws : List (List ℕ)) (before after : Option (List ℕ)) : Type 0 where
-  pub words : (book script : List ℕ) → ¬ IsPlay ws book script
+-- status 1: the words are in neither form
+pub record HasBadWords (words : List (List ℕ)) (before after : Option (List ℕ)) : Type 0 where
+  pub no_play : (book script : List ℕ) → ¬ IsPlay words book script
+  pub no_format : (book : List ℕ) → ¬ IsFormat words book
   pub unwritten : IsUnwritten before after
 
 -- status 2: the shelf failed at the book
 pub record HasUnreadBook (words : List (List ℕ)) (faults faults' : ℕ) (before after : Option (List ℕ)) : Type 0 where
-  pub form : (book : List ℕ) × ((script : List ℕ) × IsPlay words book script)
+  pub form : (book : List ℕ) × NamesBook words book
   pub rose : Rose faults faults'
   pub unwritten : IsUnwritten before after
 
@@ -95,9 +101,10 @@ pub record HasRefusedBook (words : List (List ℕ)) (held : Option (List (List �
   pub named : why ≢ BookMemory
   pub unwritten : IsUnwritten before after
 
--- status 4: the book was accepted, and the shelf failed at the script
+-- status 4: the book was accepted, and the shelf failed at the script that is to be played
 pub record HasUnreadScript (words : List (List ℕ)) (held : Option (List (List ℕ × List ℕ))) (faults faults' : ℕ) (before after : Option (List ℕ)) : Type 0 where
   pub accepted : BookIsAccepted words held
+  pub form : (script : List ℕ) × IsPlay words accepted.read.book script
   pub rose : Rose faults faults'
   pub unwritten : IsUnwritten before after
 
@@ -108,7 +115,7 @@ pub record HasRefusedScript (words : List (List ℕ)) (held : Option (List (List
   pub named : why ≢ ScriptMemory
   pub unwritten : IsUnwritten before after
 
--- status 6: book and script were accepted, the sink failed, and the report is of one legal history
+-- status 6 of `play`: book and script were accepted, the sink failed, and the report is of one legal history
 pub record HasFailedSink (words : List (List ℕ)) (held : Option (List (List ℕ × List ℕ))) (faults faults' : ℕ) (given : Option Report) : Type 0 where
   pub accepted : ScriptIsAccepted words held
   pub rose : Rose faults faults'
@@ -116,7 +123,15 @@ pub record HasFailedSink (words : List (List ℕ)) (held : Option (List (List �
   pub report : given ≡ Some told
   pub history : IsHistory accepted.read.accepted.notebook 0 told.history told.marks
 
--- status 0: the program printed the transcript of one actual history
+-- status 6 of `format`: the book was accepted, the sink failed, and it took just a front of the tidy notebook's text
+pub record HasCutBook (words : List (List ℕ)) (held : Option (List (List ℕ × List ℕ))) (faults faults' : ℕ) (given : Option Report) (before after : Option (List ℕ)) : Type 0 where
+  pub accepted : BookIsAccepted words held
+  pub form : IsFormat words accepted.read.book
+  pub rose : Rose faults faults'
+  pub report : given ≡ None
+  pub written : AppendsFront before (text_of (tidied accepted.notebook)) after
+
+-- status 0 of `play`: the program printed the transcript of one actual history
 pub record HasPlayedAll (words : List (List ℕ)) (held : Option (List (List ℕ × List ℕ))) (given : Option Report) (before after : Option (List ℕ)) : Type 0 where
   pub accepted : ScriptIsAccepted words held
   pub told : Report
@@ -125,13 +140,31 @@ pub record HasPlayedAll (words : List (List ℕ)) (held : Option (List (List ℕ
   pub played : IsPlayed accepted.read.accepted.notebook (map notice_line accepted.read.accepted.notices) accepted.content 0 told.history told.marks text
   pub written : AppendsAll before text after
 
+-- status 0 of `format`: the program printed the tidy notebook's text
+pub record HasFormatted (words : List (List ℕ)) (held : Option (List (List ℕ × List ℕ))) (given : Option Report) (before after : Option (List ℕ)) : Type 0 where
+  pub accepted : BookIsAccepted words held
+  pub form : IsFormat words accepted.read.book
+  pub report : given ≡ None
+  pub written : AppendsAll before (text_of (tidied accepted.notebook)) after
+
 -- the fault and the report of each status, with its cause
 abbrev pub IsAnswer : List (List ℕ) → Option (List (List ℕ × List ℕ)) → ℕ → ℕ → ℕ → ℕ → Option (List ℕ) → Option (List ℕ) → Option Report → Option RunFault → Type 0
-IsAnswer words held sf sf' kf kf' before after report None = HasPlayedAll words held report before after
+IsAnswer words held sf sf' kf kf' before after report None = HasPlayedAll words held report before after ⊎ HasFormatted words held report before after
 IsAnswer words held sf sf' kf kf' before after report (Some Usage) = HasBadWords words before after × (report ≡ None)
 IsAnswer words held sf sf' kf kf' before after report (Some BookUnread) = HasUnreadBook words sf sf' before after × (report ≡ None)
 IsAnswer words held sf sf' kf kf' before after report (Some (BookRefused why)) = HasRefusedBook words held why before after × (report ≡ None)
 IsAnswer words held sf sf' kf kf' before after report (Some ScriptUnread) = HasUnreadScript words held sf sf' before after × (report ≡ None)
 IsAnswer words held sf sf' kf kf' before after report (Some (ScriptRefused why)) = HasRefusedScript words held why before after × (report ≡ None)
-IsAnswer words held sf sf' kf kf' before after report (Some SinkFailed) = HasFailedSink words held kf kf' report
+IsAnswer words held sf sf' kf kf' before after report (Some SinkFailed) = HasFailedSink words held kf kf' report ⊎ HasCutBook words held kf kf' report before after
 IsAnswer words held sf sf' kf kf' before after report (Some OutOfMemory) = report ≡ None
+
+-- the same of a book that is formatted, by its name: 1, 4 and 5 are no status of it
+abbrev pub IsFormatAnswer : List ℕ → Option (List (List ℕ × List ℕ)) → ℕ → ℕ → ℕ → ℕ → Option (List ℕ) → Option (List ℕ) → Option Report → Option RunFault → Type 0
+IsFormatAnswer book held sf sf' kf kf' before after report None = HasFormatted (format_words book) held report before after
+IsFormatAnswer book held sf sf' kf kf' before after report (Some Usage) = ⊥
+IsFormatAnswer book held sf sf' kf kf' before after report (Some BookUnread) = HasUnreadBook (format_words book) sf sf' before after × (report ≡ None)
+IsFormatAnswer book held sf sf' kf kf' before after report (Some (BookRefused why)) = HasRefusedBook (format_words book) held why before after × (report ≡ None)
+IsFormatAnswer book held sf sf' kf kf' before after report (Some ScriptUnread) = ⊥
+IsFormatAnswer book held sf sf' kf kf' before after report (Some (ScriptRefused why)) = ⊥
+IsFormatAnswer book held sf sf' kf kf' before after report (Some SinkFailed) = HasCutBook (format_words book) held kf kf' report before after
+IsFormatAnswer book held sf sf' kf kf' before after report (Some OutOfMemory) = report ≡ None

@@ -1,4 +1,4 @@
-//! The program: words, book and script in, the transcript out.
+//! The program: words, book and script in, the transcript or the formatted book out.
 #![tactic(auto)]
 
 mod clients;
@@ -12,7 +12,7 @@ mod top;
 
 pub use outcome::{Outcome, Report, RunFault};
 pub use session_ops::{Call, Entry, Op, Refusal, Reply};
-pub use top::program;
+pub use top::{format_command, program};
 
 #[cfg(test)]
 mod tests;

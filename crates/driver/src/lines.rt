@@ -5,13 +5,25 @@ ghost use Rattle.notebook.specs.declared.parts.Cell.{Cell};
 ghost use Rattle.client_sync.specs.Client.{Pending};
 ghost use Rattle.client_sync.specs.Stands.{IsPendingOf, IsViewOf};
 ghost use Rattle.std.specs.Option.{option_copied};
-ghost use Rattle.driver.specs.Lines.{joined_words, not_joined_words, left_words, raw_joined_words, raw_not_joined_words, raw_words, raw_refused_words, no_client_words, edit_words, posted_words, not_posted_words, sent_words, nothing_words, received_words, sync_words, flight_words, pending_answer, pending_words, error_words};
+ghost use Rattle.driver.specs.Lines.{notice_line, joined_words, not_joined_words, left_words, raw_joined_words, raw_not_joined_words, raw_words, raw_refused_words, no_client_words, edit_words, posted_words, not_posted_words, sent_words, nothing_words, received_words, sync_words, flight_words, pending_answer, pending_words, error_words};
 
 use client_sync::{EditError, PendingEdits};
 use delta::Delta;
+use livemd_read::{Notice, NoticeKind};
 use session_ops::{Refusal, Reply};
 use std::alloc::AllocError;
 use transcript::{push_delta, push_named, push_plain, push_refusal, push_reply};
+
+/// `notice LINE KIND`.
+pub(crate) fn push_notice(out: &mut String, notice: &Notice) -> Result<(), AllocError>
+    ensures { OnOk result (string_bytes out.new ≡ string_bytes out.old ++ as_text (notice_line notice.now ∷ [])) }
+{
+    push_named(out, "notice ", notice.line)?;
+    match notice.kind {
+        NoticeKind::BadBranch => push_plain(out, " BadBranch\n"),
+        NoticeKind::Misplaced => push_plain(out, " Misplaced\n"),
+    }
+}
 
 /// `NAME joined at K`.
 pub(crate) fn push_joined(out: &mut String, name: &str, at: u64) -> Result<(), AllocError>

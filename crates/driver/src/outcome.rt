@@ -15,7 +15,7 @@ pub struct Report {
 /// Why a run did not do all that it was asked. The place in this list, counted from 1, is the status.
 #[derive(Clone, Copy, Debug, PartialEq, Eq)]
 pub enum RunFault {
-    /// The words aren't in the form `play BOOK SCRIPT`.
+    /// The words are neither `play BOOK SCRIPT` nor `format BOOK`.
     Usage,
     /// The shelf failed at the book.
     BookUnread,
@@ -34,9 +34,10 @@ pub enum RunFault {
 /// The answer of a run.
 #[derive(Debug, Drop)]
 pub struct Outcome {
-    /// 0 where all was played and written, else the fault's place in the list of faults.
+    /// 0 where all was played, or the book formatted, and written; else the fault's place in the list
+    /// of faults.
     pub status: u8,
     pub fault: Option<RunFault>,
-    /// There exactly at the statuses 0 and 6.
+    /// There exactly at the statuses 0 and 6 of `play`.
     pub report: Option<Report>,
 }

@@ -1,9 +1,10 @@
 //! Playing a script over a notebook, with what is printed written to a sink.
-ghost use Rattle.std.specs.Prelude.{◌≡◌, ℕ, ◌≤◌, [], List, OnOk, IfOk, OnErr, IsErrOf, string_bytes};
+ghost use Rattle.std.specs.Prelude.{◌≡◌, ℕ, ◌≤◌, [], List, map, OnOk, IfOk, OnErr, IsErrOf, string_bytes};
 ghost use Rattle.book_outside.specs.Outside.{Rose, AppendsAll};
 ghost use Rattle.notebook.specs.declared.parts.Parts.{Parts};
 ghost use Rattle.session_ops.specs.State.{state};
 ghost use Rattle.transcript.specs.Texts.{as_text};
+ghost use Rattle.driver.specs.Lines.{notice_line};
 ghost use Rattle.driver.specs.Player.{Game, Stage};
 ghost use Rattle.driver.specs.Transcript.{end_lines};
 ghost use Rattle.session_core.specs.Session.{IsSession, history_of};
@@ -12,11 +13,13 @@ ghost use Rattle.driver.specs.Standing.{Stands, HasPlayed, entries_of};
 ghost use Rattle.driver.specs.Playing.{HavePlayed};
 ghost use Rattle.driver.specs.Ends.{IsPlayedSo, IsFresh, EndsWritten, HasEnded};
 
+use crate::lines::push_notice;
 use crate::outcome::Report;
 use crate::player::Player;
 use crate::settling::settle;
 use crate::statuses::push_statuses;
 use book_outside::{Sink, SinkError};
+use livemd_read::Notice;
 use notebook::Notebook;
 use plain_list::Items;
 use script::{Content, ScriptLine};
@@ -42,21 +45,22 @@ pub(crate) enum Played {
     OutOfMemory,
 }
 
-/// Plays a script over a notebook.
+/// Plays a script over a notebook. The notices of the book are printed first.
 pub(crate) fn play<R: Wait, K: Sink>(
     rt: &R,
     alloc: Global,
     book: Notebook,
+    notices: &[Notice],
     content: &Content,
     sink: &mut K,
 ) -> Played
-    ensures played { IsPlayedSo book content.now (K.faults sink.old) (K.faults sink.new) (K.written sink.old) (K.written sink.new) result }
+    ensures played { IsPlayedSo book (map notice_line notices.now) content.now (K.faults sink.old) (K.faults sink.new) (K.written sink.old) (K.written sink.new) result }
 {
     let mut player = match Player::new(alloc, book) {
         Ok(player) => player,
         Err(_) => return Played::OutOfMemory,
     };
-    match play_all(rt, &mut player, content, sink) {
+    match play_all(rt, &mut player, notices, content, sink) {
         Ok(()) => Played::Done(report_of(player)),
         Err(PlayFault::SinkFailed) => Played::SinkFailed(report_of(player)),
         Err(PlayFault::OutOfMemory) => Played::OutOfMemory,
@@ -79,8 +83,50 @@ fn report_of(player: Player) -> Report
     }
 }
 
-/// Plays all lines and the end.
+/// Writes the notices, and plays all lines and the end.
 fn play_all<R: Wait, K: Sink>(
+    rt: &R,
+    player: &mut Player,
+    notices: &[Notice],
+    content: &Content,
+    sink: &mut K,
+) -> Result<(), PlayFault>
+    ensures played { (n0 : Parts) → IsFresh n0 player.old → OnOk result ((text : List ℕ) × (IsPlayed n0 (map notice_line notices.now) content.now 0 (entries_of player.new) player.new.marks text × AppendsAll (K.written sink.old) text (K.written sink.new))) }
+    ensures failed { (n0 : Parts) → IsFresh n0 player.old → IsErrOf result PlayFault.SinkFailed → IsHistory n0 0 (entries_of player.new) player.new.marks }
+    ensures counts { K.faults sink.old ≤ K.faults sink.new }
+    ensures rose { IsErrOf result PlayFault.SinkFailed → Rose (K.faults sink.old) (K.faults sink.new) }
+{
+    match write_notices(player.alloc, notices, sink) {
+        Ok(()) => play_script(rt, player, content, sink),
+        Err(fault) => Err(fault),
+    }
+}
+
+/// Writes the lines of the notices as one piece, if there are any.
+fn write_notices<K: Sink>(alloc: Global, notices: &[Notice], sink: &mut K) -> Result<(), PlayFault>
+    ensures written { OnOk result (AppendsAll (K.written sink.old) (as_text (map notice_line notices.now)) (K.written sink.new)) }
+    ensures counts { K.faults sink.old ≤ K.faults sink.new }
+    ensures rose { IsErrOf result PlayFault.SinkFailed → Rose (K.faults sink.old) (K.faults sink.new) }
+{
+    match notices_text(alloc, notices) {
+        Ok(text) => write_piece(sink, text.as_str()),
+        Err(_) => Err(PlayFault::OutOfMemory),
+    }
+}
+
+/// The lines of the notices.
+fn notices_text(alloc: Global, notices: &[Notice]) -> Result<String, AllocError>
+    ensures { IfOk result (λ t. string_bytes t ≡ as_text (map notice_line notices.now)) }
+{
+    let mut out = String::new(alloc);
+    for notice in notices {
+        push_notice(&mut out, notice)?;
+    }
+    Ok(out)
+}
+
+/// Plays all lines and the end.
+fn play_script<R: Wait, K: Sink>(
     rt: &R,
     player: &mut Player,
     content: &Content,

@@ -3,7 +3,7 @@ ghost use Rattle.std.specs.Prelude.{◌≡◌, ℕ, ◌+◌, ◌∷◌, [], ◌+
 ghost use Rattle.std.specs.Str.{encode_utf8_all};
 ghost use Rattle.notebook.specs.declared.parts.Parts.{Parts};
 ghost use Rattle.session_ops.specs.declared.entry.Call.TheVariants.{Client as ByClient};
-ghost use Rattle.script.specs.declared.line.ScriptLine.TheVariants.{Join, Leave, Edit, Post, PostReport, Send, Recv, Sync, Show, Pending, RawJoin, Raw, Settle, Cells};
+ghost use Rattle.script.specs.declared.line.ScriptLine.TheVariants.{Join, Leave, Edit, Post, PostReport, Send, Recv, Sync, Show, Pending, RawJoin, Raw, Settle, Cells, Book};
 ghost use Rattle.session_core.specs.Session.{IsSession};
 ghost use Rattle.client_sync.specs.Client.{Client as Holder, with_message};
 ghost use Rattle.client_sync.specs.Stands.{Mirrors, IsPostable, number_in};
@@ -115,6 +115,9 @@ impl Player {
             }
             ScriptLine::Cells => {
                 self.cells(&mut out)?;
+            }
+            ScriptLine::Book => {
+                self.book(&mut out)?;
             }
         }
         Ok(out)
@@ -496,6 +499,16 @@ impl Player {
     {
         self.look()?;
         push_statuses(out, self.alloc, self.session.book().parts(), &self.session)?;
+        Ok(())
+    }
+
+    /// `book`.
+    pub(crate) fn book(&mut self, out: &mut String) -> Result<(), AllocError>
+        ensures { (g : Game) (s : Stage) → Stands g self.old s → OnOk result (HasPlayed g Book self.old self.new s (string_bytes out.old) (string_bytes out.new)) }
+    {
+        self.look()?;
+        let book = livemd_write::text(self.alloc, self.session.book())?;
+        push_plain(out, book.as_str())?;
         Ok(())
     }
 }

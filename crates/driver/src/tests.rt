@@ -116,18 +116,6 @@ fn faults_are_told(rt: HostRuntime) -> Result<(), Fail> {
     assert_eq!(rt; written.len(), 0);
     let (outcome, _) = run(&rt, rt.alloc(), &["b"], &[BOOK], &[])?;
     assert_eq!(rt; outcome.status, 4);
-    let (outcome, _) = run(
-        &rt,
-        rt.alloc(),
-        &["b", "s"],
-        &["# T\n\n## S\n\n```\n", SCRIPT],
-        &[],
-    )?;
-    assert_eq!(rt; outcome.status, 3);
-    assert_eq!(rt;
-        outcome.fault,
-        Some(RunFault::BookRefused(BookError::Unbuilt { line: 5 }))
-    );
     let (outcome, written) = run(
         &rt,
         rt.alloc(),
@@ -310,5 +298,118 @@ fn faults_of_cells_are_shown(rt: HostRuntime) -> Result<(), Fail> {
     let script = "join ann\npost ann queue 9\nsync\n";
     let (_, written) = run_cells(&rt, alloc, "1", script)?;
     assert_eq!(rt; written.as_slice(), NO_CELL.as_bytes());
+    Ok(())
+}
+
+/// The answer where the book has these bytes.
+fn run_bytes<R: Threads + Wait + Sync>(
+    rt: &R,
+    alloc: Global,
+    spoken: &[&str],
+    bytes: &[u8],
+) -> Result<Outcome, Fail> {
+    let mut books = Vec::new(alloc);
+    books.push((
+        String::from_str(alloc, "b")?,
+        Vec::from_slice(alloc, bytes)?,
+    ))?;
+    let mut shelf = MemoryShelf::new(books, Vec::new(alloc));
+    let mut sink = MemorySink::new(alloc, Vec::new(alloc));
+    let words = words(alloc, spoken)?;
+    Ok(program(
+        rt,
+        alloc,
+        words.as_slice(),
+        &mut shelf,
+        &mut sink,
+        &PlainGate,
+    ))
+}
+
+#[test]
+fn a_book_is_refused(rt: HostRuntime) -> Result<(), Fail> {
+    let why = RunFault::BookRefused(BookError::NotUtf8 { at: 1 });
+    let outcome = run_bytes(&rt, rt.alloc(), &["play", "b", "s"], b"a\xff")?;
+    assert_eq!(rt; outcome.fault, Some(why));
+    let outcome = run_bytes(&rt, rt.alloc(), &["format", "b"], b"a\xff")?;
+    assert_eq!(rt; outcome.fault, Some(why));
+    Ok(())
+}
+
+/// Whether formatting a book writes just this, and reports nothing.
+fn formats<R: Threads + Wait + Sync>(
+    rt: &R,
+    alloc: Global,
+    book: &str,
+    told: &str,
+) -> Result<bool, Fail> {
+    let (outcome, written) = run_words(rt, alloc, &["format", "b"], &["b"], &[book], &[])?;
+    let silent = outcome.report.is_none();
+    Ok(outcome.status == 0 && silent && written.as_slice() == told.as_bytes())
+}
+
+#[test]
+fn books_are_formatted(rt: HostRuntime) -> Result<(), Fail> {
+    let alloc = rt.alloc();
+    assert!(rt; formats(&rt, alloc, "", "# Untitled notebook\n")?);
+    let parted = "# T\n\n## S\n\na\n\n<!-- livebook:{\"break_markdown\":true} -->\n\nb\n";
+    assert!(rt; formats(&rt, alloc, parted, parted)?);
+    assert!(rt;
+        formats(
+            &rt,
+            alloc,
+            "#  T \r\n##  S\n\n\na  \n \n",
+            "# T\n\n## S\n\na  \n"
+        )?
+    );
+    let (outcome, written) = run_words(&rt, alloc, &["format", "b"], &["b"], &[BOOK], &[1])?;
+    assert_eq!(rt; outcome.fault, Some(RunFault::SinkFailed));
+    assert_eq!(rt; written.len(), 0);
+    Ok(())
+}
+
+#[test]
+fn notices_come_first(rt: HostRuntime) -> Result<(), Fail> {
+    assert!(rt;
+        prints(
+            &rt,
+            rt.alloc(),
+            "<!-- livebook:{\"output\":true} -->\n\n<!-- livebook:{\"branch_parent_index\":3} -->\n\n## S\n",
+            "sync\n",
+            "notice 1 Misplaced\nnotice 3 BadBranch\nsync at 0\nend\nnotebook \"Untitled notebook\"\nsection 1 \"S\"\n",
+        )?
+    );
+    Ok(())
+}
+
+#[test]
+fn the_servers_book_is_printed(rt: HostRuntime) -> Result<(), Fail> {
+    assert!(rt;
+        prints(
+            &rt,
+            rt.alloc(),
+            BOOK,
+            "join ann\nedit ann 1 [\"X\"]\nbook\nsync\nbook\n",
+            "ann joined at 1\nann edit 1: ok\n# T\n\n## S\n\nab\nann sent: accepted rev 1\nsync at 2\n# T\n\n## S\n\nXab\nend\nnotebook \"T\"\nsection 1 \"S\"\ncell 1 markdown rev 1 \"Xab\"\n",
+        )?
+    );
+    Ok(())
+}
+
+/// A section with a code cell, and one that branches from it.
+const BRANCHED: &str =
+    "## A\n\n```elixir\nx = 1\n```\n\n<!-- livebook:{\"branch_parent_index\":0} -->\n\n## B\n\n```elixir\nx + 1\n```\n";
+
+#[test]
+fn a_branch_is_played(rt: HostRuntime) -> Result<(), Fail> {
+    assert!(rt;
+        prints(
+            &rt,
+            rt.alloc(),
+            BRANCHED,
+            "join ann\npost ann queue 2\nsync\n",
+            "ann joined at 1\nann post: ok\nann sent: ok\nsync at 2\nend\nnotebook \"Untitled notebook\"\nsection 1 \"A\"\ncell 1 code rev 0 \"x = 1\"\nsection 2 \"B\" from 1\ncell 2 code rev 0 \"x + 1\"\ncode 1 main ready evaluated value 1\ncode 2 branch 2 ready evaluated value 2\n",
+        )?
+    );
     Ok(())
 }

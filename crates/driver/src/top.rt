@@ -1,12 +1,14 @@
 //! The top call: words, shelf and sink in, the status out.
-ghost use Rattle.std.specs.Prelude.{◌≡◌, ◌≤◌, List, ℕ, Option, map, IfSome, IfOk, string_bytes};
-ghost use Rattle.driver.specs.Program.{IsPlay, IsAnswer, status_of};
-ghost use Rattle.driver.specs.Answers.{BytesAreBook, BytesAreScript, IsBookAnswer, IsScriptAnswer, WordsAnswer, HasReadBook, outcome_of, ended_with};
+ghost use Rattle.std.specs.Prelude.{◌≡◌, ◌≤◌, List, ℕ, Option, map, IfSome, MatchOption, string_bytes};
+ghost use Rattle.driver.specs.Program.{IsPlay, IsFormat, IsAnswer, IsFormatAnswer, status_of};
+ghost use Rattle.driver.specs.Answers.{BytesAreBook, BytesAreScript, IsBookAnswer, IsScriptAnswer, IsWriting, WordsAnswer, HasReadBook, outcome_of, ended_with};
 
 use crate::outcome::{Outcome, RunFault};
 use crate::play::{Played, play};
-use book_outside::{Gate, Shelf, ShelfError, Sink};
+use book_outside::{Gate, Shelf, ShelfError, Sink, SinkError};
 use livemd_read::{BookError, Read, read};
+use livemd_write::write;
+use notebook::Notebook;
 use script::{Script, ScriptError, read_script};
 use std::alloc::Global;
 use std::sync::Wait;
@@ -15,13 +17,16 @@ use std::thread::Threads;
 /// At most this many bytes of a book or a script are read: one more than either may have.
 const MOST_BYTES: u64 = 8_388_609;
 
-/// Runs the program on the words of the command line, `play BOOK SCRIPT`: it plays the script of that
-/// name over the book of that name, and writes the transcript to the sink.
+/// Runs the program on the words of the command line. `play BOOK SCRIPT` plays the script of that name
+/// over the book of that name, and writes the transcript to the sink; `format BOOK` is
+/// [`format_command`].
 ///
-/// Both are read from the shelf and may have 8,388,608 bytes. Each script line that prints is one
-/// write, and so is the end. Code cells are evaluated on the caller's thread; the gate isn't used yet.
+/// Both are read from the shelf and may have 8,388,608 bytes. The notices of the book are one write,
+/// each script line that prints is one, and so is the end. Code cells are evaluated on the caller's
+/// thread; the gate isn't used yet.
 ///
-/// At the statuses 1 to 5 nothing is written. At status 6 the report is of the history so far.
+/// At the statuses 1 to 5 nothing is written. At status 6 of `play` the report is of the history so
+/// far.
 pub fn program<R: Threads + Wait + Sync, S: Shelf, K: Sink + Send, G: Gate>(
     rt: &R,
     alloc: Global,
@@ -34,8 +39,45 @@ pub fn program<R: Threads + Wait + Sync, S: Shelf, K: Sink + Send, G: Gate>(
     ensures answer { IsAnswer (map string_bytes words.now) (S.held shelf.old) (S.faults shelf.old) (S.faults shelf.new) (K.faults sink.old) (K.faults sink.new) (K.written sink.old) (K.written sink.new) result.report result.fault }
 {
     match play_words(words) {
-        None => ended(RunFault::Usage),
         Some((book, script)) => run(rt, alloc, book, script, shelf, sink),
+        None => run_format(alloc, words, shelf, sink),
+    }
+}
+
+/// Writes the book of a name in its tidy form, as `format BOOK` does: the notices are dropped, and the
+/// text is one write.
+///
+/// The statuses are 0, 2, 3, 6 and 7, and there is no report. At status 6 a front of the text was
+/// written. It waits for nobody.
+pub fn format_command<S: Shelf, K: Sink>(
+    alloc: Global,
+    name: &str,
+    shelf: &mut S,
+    sink: &mut K,
+) -> Outcome
+    ensures status { result.status ≡ status_of result.fault }
+    ensures answer { IsFormatAnswer name.now (S.held shelf.old) (S.faults shelf.old) (S.faults shelf.new) (K.faults sink.old) (K.faults sink.new) (K.written sink.old) (K.written sink.new) result.report result.fault }
+{
+    match read_book(alloc, name, shelf) {
+        Ok(book) => write_book(alloc, &book.notebook, sink),
+        Err(fault) => ended(fault),
+    }
+}
+
+/// Runs on words that don't ask to play.
+fn run_format<S: Shelf, K: Sink>(
+    alloc: Global,
+    words: &[String],
+    shelf: &mut S,
+    sink: &mut K,
+) -> Outcome
+    requires { (book script : List ℕ) → ¬ IsPlay (map string_bytes words.now) book script }
+    ensures status { result.status ≡ status_of result.fault }
+    ensures answer { IsAnswer (map string_bytes words.now) (S.held shelf.old) (S.faults shelf.old) (S.faults shelf.new) (K.faults sink.old) (K.faults sink.new) (K.written sink.old) (K.written sink.new) result.report result.fault }
+{
+    match format_word(words) {
+        Some(book) => format_command(alloc, book, shelf, sink),
+        None => ended(RunFault::Usage),
     }
 }
 
@@ -50,7 +92,17 @@ fn play_words(words: &[String]) -> Option<(&str, &str)>
     }
 }
 
-/// The outcome of a fault before anything was played.
+/// The name of the book in the words `format BOOK`.
+fn format_word(words: &[String]) -> Option<&str>
+    ensures { MatchOption result ((book : List ℕ) → ¬ IsFormat (map string_bytes words.now) book) (λ book. IsFormat (map string_bytes words.now) book.now) }
+{
+    match words {
+        [mode, book] if mode.as_str() == "format" => Some(book.as_str()),
+        _ => None,
+    }
+}
+
+/// The outcome of a fault without a report.
 fn ended(fault: RunFault) -> Outcome
     ensures { result ≡ ended_with fault }
 {
@@ -101,8 +153,39 @@ fn run_script<R: Wait, S: Shelf, K: Sink>(
     ensures answer { (words : List (List ℕ)) → HasReadBook words (S.held shelf.old) script.now book → IsAnswer words (S.held shelf.old) (S.faults shelf.old) (S.faults shelf.new) (K.faults sink.old) (K.faults sink.new) (K.written sink.old) (K.written sink.new) result.report result.fault }
 {
     match read_lines(alloc, script, shelf) {
-        Ok(script) => finished(play(rt, alloc, book.notebook, script.content(), sink)),
+        Ok(script) => {
+            let Read { notebook, notices } = book;
+            finished(play(
+                rt,
+                alloc,
+                notebook,
+                notices.as_slice(),
+                script.content(),
+                sink,
+            ))
+        }
         Err(fault) => ended(fault),
+    }
+}
+
+/// Writes the tidy form of a book.
+fn write_book<K: Sink>(alloc: Global, book: &Notebook, sink: &mut K) -> Outcome
+    ensures status { result.status ≡ status_of result.fault }
+    ensures report { result.report ≡ None }
+    ensures written { IsWriting book.now (K.faults sink.old) (K.faults sink.new) (K.written sink.old) (K.written sink.new) result.fault }
+{
+    let text = match write(alloc, book) {
+        Ok(text) => text,
+        Err(_) => return ended(RunFault::OutOfMemory),
+    };
+    match sink.write(text.as_slice()) {
+        Ok(()) => Outcome {
+            status: 0,
+            fault: None,
+            report: None,
+        },
+        Err(SinkError::Failed) => ended(RunFault::SinkFailed),
+        Err(SinkError::OutOfMemory) => ended(RunFault::OutOfMemory),
     }
 }
 
@@ -158,7 +241,6 @@ fn notebook_of(alloc: Global, bytes: &[u8]) -> Result<Read, RunFault>
         Err(BookError::OutOfMemory) => Err(RunFault::OutOfMemory),
         Err(BookError::TooLarge) => Err(RunFault::BookRefused(BookError::TooLarge)),
         Err(BookError::NotUtf8 { at }) => Err(RunFault::BookRefused(BookError::NotUtf8 { at })),
-        Err(BookError::Unbuilt { line }) => Err(RunFault::BookRefused(BookError::Unbuilt { line })),
         Err(BookError::TooManySections) => {
             Err(RunFault::BookRefused(BookError::TooManySections))
         }

@@ -1,1 +1,12 @@
+mod BookLines
+mod Books
+mod Characters
+mod Drafting
+mod LineKinds
+pub mod ReadBack
+mod Steps
+mod Tidiness
+pub mod TidyBooks
+mod TidyTexts
+pub mod Trimming
 mod Worked

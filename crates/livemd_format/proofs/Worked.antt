@@ -403,3 +403,45 @@ written_setup : text_of (record untitled { setup = record untitled.setup { saved
     ≡ text (codes "# Untitled notebook" ∷ [] ∷ E ∷ [] ∷ T ∷ [] ∷ O ∷ [] ∷ codes "`````x" ∷ codes "````" ∷ codes "`````" ∷ [] ∷ U ∷ [] ∷ V ∷ [])
 unfolding serde_json_on_literals
 written_setup = refl
+
+-- ---- written and read back
+
+-- what the text of a notebook's tidy form is read as
+abbrev again : Parts → Book
+again n = record { notebook = notebook_of (items_of (text_of (tidied n))); notices = notices_of (items_of (text_of (tidied n))) }
+
+empty_again : again untitled ≡ quiet (tidied untitled)
+unfolding chars encode_utf8 digits serde_json_on_literals
+empty_again = refl
+
+-- Markdown cells beside each other, with a heading, a metadata line, forced code and an open fence in them, and one of blank lines
+texts_book : Parts
+texts_book = book (section 4 nA (markdown 3 (10 ∷ sB ++ 10 ∷ 10 ∷ codes "# x" ++ 10 ∷ U ++ 10 ∷ 32 ∷ 10 ∷ []) ∷ markdown 9 (E ++ 10 ∷ sB ++ 10 ∷ T ++ 10 ∷ codes "~~~~ x" ++ 10 ∷ F ++ 10 ∷ 10 ∷ []) ∷ record (markdown 1 (32 ∷ 13 ∷ 10 ∷ [])) { before = U ∷ [] } ∷ markdown 2 F ∷ []) ∷ []) 10 5
+
+texts_again : again texts_book ≡ quiet (tidied texts_book)
+unfolding chars encode_utf8 digits serde_json_on_literals texts_book
+texts_again = refl
+
+-- kept lines everywhere, with stamps among them
+kept_book : Parts
+kept_book = record untitled {
+  before = S ∷ U ∷ S ∷ [];
+  setup = record untitled.setup { before = S ∷ [] };
+  sections = record (section 1 nA (record (markdown 1 a) { before = U ∷ S ∷ [] } ∷ record (code 2 []) { before = S ∷ [] } ∷ record (markdown 3 a) { before = S ∷ [] } ∷ [])) { before = S ∷ V ∷ [] } ∷ [];
+  after = S ∷ V ∷ [];
+}
+
+kept_again : again kept_book ≡ quiet (tidied kept_book)
+unfolding chars encode_utf8 digits serde_json_on_literals kept_book
+kept_again = refl
+
+-- branches from sections that aren't the first, with kept lines before them, and outputs, of the setup cell too
+branched_book : Parts
+branched_book = record (book (section 8 [] [] ∷ section 5 nA [] ∷ record (branch 9 nB 5 (record (code 7 (codes "```" ++ 10 ∷ codes "a````")) { saved = saved (codes "elixir") [] ∷ saved [] (codes "``" ++ 10 ∷ codes "`````") ∷ [] } ∷ markdown 6 (a ++ 13 ∷ 10 ∷ b ++ 13 ∷ 98 ∷ 13 ∷ 13 ∷ []) ∷ [])) { before = U ∷ S ∷ [] } ∷ branch 2 nA 8 [] ∷ []) 8 10) {
+  name = 13 ∷ 10 ∷ 0xE9 ∷ 9 ∷ 32 ∷ [];
+  setup = record (setup (10 ∷ 13 ∷ [])) { before = U ∷ []; saved = saved (codes "x y") (10 ∷ []) ∷ [] };
+}
+
+branched_again : again branched_book ≡ quiet (tidied branched_book)
+unfolding chars encode_utf8 digits serde_json_on_literals branched_book
+branched_again = refl

@@ -1,36 +1,34 @@
--- The notebook of the first of the items, while the others are still to be put.
+-- What the first of the items make, while the others are still to be put.
 use Rattle.std.proofs.Common.{◌≡◌, ℕ, ◌+◌, ◌<◌, ◌≤◌, ◌^◌, List, ◌++◌, length, take, drop, sym, ap, ◌∙◌, arith, subst}
+use Rattle.std.specs.List.{fold}
 use Rattle.std.proofs.lemmas.List.{map-append, take-append-drop, take_all}
-use Rattle.notebook.specs.declared.parts.Parts.{Parts}
 use Rattle.notebook.specs.Book.{section_cells}
-use Rattle.notebook.specs.Rules.{IsNotebook}
+use Rattle.livemd_format.specs.Draft.{Draft, new_draft, with_item}
+use Rattle.livemd_read.specs.declared.draft.Draft as code
 use Rattle.livemd_read.specs.declared.items.Item.{Item}
-use Rattle.livemd_read.specs.Book.{book_of}
-use Rattle.livemd_read.specs.Reads.{HasFewSections, HasFewCells}
-use Rattle.livemd_read.specs.Resume.{item_of, views}
-use Rattle.livemd_read.proofs.Numbering.{IsDraft-book_of, IsNotebook-book_of, sections-front, cells-front}
+use Rattle.livemd_read.specs.Causes.{HasFewSections, HasFewCells}
+use Rattle.livemd_read.specs.Views.{draft_of, item_of, views}
+use Rattle.livemd_read.proofs.Growing.{sections-front, cells-front}
+use Rattle.livemd_read.proofs.Numbering.{IsDraft-items, next_cell-is, next_section-is}
 
 split : (xs : List Item) (i : ℕ) → views (take i xs) ++ views (drop i xs) ≡ views xs
 split xs i = sym (map-append item_of (take i xs) (drop i xs)) ∙ ap views (take-append-drop i xs)
 
-pub few_next_section : (xs : List Item) (i : ℕ) (n : Parts) → n ≡ book_of (views (take i xs)) → HasFewSections (book_of (views xs)) → n.next_section < 2 ^ 63
-few_next_section xs i n e few =
-    let grows : length (book_of (views (take i xs))).sections ≤ length (book_of (views (take i xs) ++ views (drop i xs))).sections = sections-front (views (take i xs)) (views (drop i xs)) in
-    let same : length (book_of (views (take i xs) ++ views (drop i xs))).sections ≡ length (book_of (views xs)).sections = ap (λ is. length (book_of is).sections) (split xs i) in
-    let next : (book_of (views (take i xs))).next_section ≡ length (book_of (views (take i xs))).sections + 1 = (IsDraft-book_of (views (take i xs))).next_section in
-    let here : n.next_section ≡ (book_of (views (take i xs))).next_section = ap (λ (m : Parts). m.next_section) e in
+pub few_next_section : (xs : List Item) (i : ℕ) (d : code.Draft) → draft_of d ≡ fold with_item new_draft (views (take i xs)) → HasFewSections (fold with_item new_draft (views xs)).parts → d.parts.next_section < 2 ^ 63
+few_next_section xs i d e few =
+    let e1 : Draft = fold with_item new_draft (views (take i xs)) in
+    let grows : length e1.parts.sections ≤ length (fold with_item new_draft (views (take i xs) ++ views (drop i xs))).parts.sections = sections-front new_draft (views (take i xs)) (views (drop i xs)) in
+    let same : length (fold with_item new_draft (views (take i xs) ++ views (drop i xs))).parts.sections ≡ length (fold with_item new_draft (views xs)).parts.sections = ap (λ is. length (fold with_item new_draft is).parts.sections) (split xs i) in
+    let next : e1.parts.next_section ≡ length e1.parts.sections + 1 = next_section-is e1 (IsDraft-items (views (take i xs))) in
+    let here : d.parts.next_section ≡ e1.parts.next_section = ap (λ (c : Draft). c.parts.next_section) e in
     omega (arith, few)
 
-pub few_next_cell : (xs : List Item) (i : ℕ) (n : Parts) → n ≡ book_of (views (take i xs)) → HasFewCells (book_of (views xs)) → n.next_cell < 2 ^ 63
-few_next_cell xs i n e few =
-    let grows : length (section_cells (book_of (views (take i xs)))) ≤ length (section_cells (book_of (views (take i xs) ++ views (drop i xs)))) = cells-front (views (take i xs)) (views (drop i xs)) in
-    let same : length (section_cells (book_of (views (take i xs) ++ views (drop i xs)))) ≡ length (section_cells (book_of (views xs))) = ap (λ is. length (section_cells (book_of is))) (split xs i) in
-    let next : (book_of (views (take i xs))).next_cell ≡ length (section_cells (book_of (views (take i xs)))) + 1 = (IsDraft-book_of (views (take i xs))).next_cell in
-    let here : n.next_cell ≡ (book_of (views (take i xs))).next_cell = ap (λ (m : Parts). m.next_cell) e in
-    let most : length (section_cells (book_of (views xs))) ≤ 4000 = few.cells in
+pub few_next_cell : (xs : List Item) (i : ℕ) (d : code.Draft) → draft_of d ≡ fold with_item new_draft (views (take i xs)) → HasFewCells (fold with_item new_draft (views xs)).parts → d.parts.next_cell < 2 ^ 63
+few_next_cell xs i d e few =
+    let e1 : Draft = fold with_item new_draft (views (take i xs)) in
+    let grows : length (section_cells e1.parts) ≤ length (section_cells (fold with_item new_draft (views (take i xs) ++ views (drop i xs))).parts) = cells-front new_draft (views (take i xs)) (views (drop i xs)) in
+    let same : length (section_cells (fold with_item new_draft (views (take i xs) ++ views (drop i xs))).parts) ≡ length (section_cells (fold with_item new_draft (views xs)).parts) = ap (λ is. length (section_cells (fold with_item new_draft is).parts)) (split xs i) in
+    let next : e1.parts.next_cell ≡ length (section_cells e1.parts) + 1 = next_cell-is e1 (IsDraft-items (views (take i xs))) in
+    let here : d.parts.next_cell ≡ e1.parts.next_cell = ap (λ (c : Draft). c.parts.next_cell) e in
+    let most : length (section_cells (fold with_item new_draft (views xs)).parts) ≤ 4000 = few.cells in
     omega arith
-
-pub whole_kept : (xs : List Item) (i : ℕ) (n : Parts) → n ≡ book_of (views (take i xs)) → length xs ≤ i → HasFewSections (book_of (views xs)) → HasFewCells (book_of (views xs)) → IsNotebook n
-whole_kept xs i n e all few few_cells =
-    let is : n ≡ book_of (views xs) = e ∙ ap (λ ys. book_of (views ys)) (take_all i xs all) in
-    subst (λ (m : Parts). IsNotebook m) (sym is) (IsNotebook-book_of (views xs) few few_cells)

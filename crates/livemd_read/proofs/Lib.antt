@@ -1,9 +1,9 @@
 mod Building
 pub mod Causes
+mod Counting
 mod Fronts
-mod Loop
-pub mod Numbering
+mod Growing
+mod Numbering
+mod Settling
 mod Steps
 mod Trims
-mod Unbuilt
-mod Worked

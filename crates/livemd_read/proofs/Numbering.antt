@@ -1,26 +1,26 @@
 -- The notebook of items: sections and cells are numbered from 1 in their order, and it keeps the rules.
-use Rattle.std.proofs.Common.{◌≡◌, ℕ, ◌+◌, ◌<◌, ◌≤◌, zero, suc, true, false, cond, List, [], ◌∷◌, ◌++◌, Option, None, length, map, refl, sym, ap, ◌∙◌, arith, subst, codes, length-append}
-use Rattle.std.specs.Prelude.{Contains}
+use Rattle.std.proofs.Common.{◌≡◌, ◌⊎◌, inl, inr, ℕ, ◌+◌, ◌<◌, ◌≤◌, zero, suc, true, false, cond, List, [], ◌∷◌, ◌++◌, Option, None, Some, length, map, refl, sym, ap, ◌∙◌, arith, subst, codes, append_assoc, length-append}
+use Rattle.std.specs.Prelude.{Contains, is_none}
 use Rattle.std.specs.Str.{chars}
 use Rattle.std.specs.List.{fold, AllByRecursion}
 use Rattle.std.proofs.lemmas.List.{append-nil, map-append}
-use Rattle.std.proofs.lemmas.Grind.{flat_map-append}
-use Rattle.std.proofs.lemmas.List.Sums.{fold-append}
 use Rattle.notebook.specs.declared.parts.Cell.{Cell}
+use Rattle.notebook.specs.declared.parts.Saved.{Saved}
 use Rattle.notebook.specs.declared.parts.Section.{Section}
 use Rattle.notebook.specs.declared.parts.Parts.{Parts}
 use Rattle.notebook.specs.declared.parts.Kind.{Kind}
 use Rattle.notebook.specs.declared.parts.Kind.TheVariants as cell
 use Rattle.notebook.specs.Book.{cells_of, section_cells, untitled}
-use Rattle.notebook.specs.Flow.{HasNoParent, IsUnbranched}
 use Rattle.notebook.specs.Rules.{IsNotebook, cell_number, section_number, AreDistinct, IsSectionKind, IsSectionCell, IsBelow, IsParentAmong, ParentsStand, numbered_cells}
-use Rattle.livemd_read.specs.Lines.{is_empty}
-use Rattle.livemd_read.specs.Items as item
-use Rattle.livemd_read.specs.Book.{with_section, with_some_section, with_last_cell, with_cell, with_item, book_of, notices_of}
-use Rattle.livemd_read.specs.Reads.{HasFewSections, HasFewCells}
-use Rattle.livemd_read.proofs.Building.{cells-with_last_cell, length-with_last_cell, some_length, cell_count-section, cell_count-code, cell_count-markdown, sections-section, sections-code, sections-markdown}
+use Rattle.livemd_lines.specs.Lines.{is_empty}
+use Rattle.livemd_format.specs.Items as item
+use Rattle.livemd_format.specs.Draft.{Draft, add_cell, add_last_output, finished, new_draft, on_last, stem_at, stem_number, take_branch, take_cell, with_cell, with_item, with_output, with_section, with_some_section}
+use Rattle.livemd_read.specs.Causes.{HasFewSections, HasFewCells}
+use Rattle.livemd_read.proofs.Growing.{cells-cell, cells-section, map-on_last, map-output, next_cell-some}
 
--- numbers that count up from the first one
+-- ---- numbers that count up
+
+-- from the first one
 abbrev pub AreCounted : ℕ → List ℕ → Type 0
 AreCounted k [] = Unit {0}
 AreCounted k (n ∷ ns) = (n ≡ k) × AreCounted (suc k) ns
@@ -46,74 +46,183 @@ all_more : {X : Type 0} (P : X → Type 0) (xs : List X) (x : X) → AllByRecurs
 all_more P [] x h p = (p, tt)
 all_more P (y ∷ xs) x h p = (h.0, all_more P xs x h.1 p)
 
--- what holds of each notebook that items give
-pub record IsDraft (n : Parts) : Type 0 where
-  pub setup_number : n.setup.id ≡ 0
-  pub setup_kind : n.setup.kind ≡ cell.Setup
-  pub bin : n.bin ≡ []
-  pub cell_numbers : AreCounted 1 (map cell_number (section_cells n))
-  pub kinds : AllByRecursion IsSectionCell (section_cells n)
-  pub next_cell : n.next_cell ≡ length (section_cells n) + 1
-  pub section_numbers : AreCounted 1 (map section_number n.sections)
-  pub parents : AllByRecursion HasNoParent n.sections
-  pub next_section : n.next_section ≡ length n.sections + 1
-
 length-map : {X Y : Type 0} (f : X → Y) (xs : List X) → length (map f xs) ≡ length xs
 length-map f [] = refl
 length-map f (x ∷ xs) = ap (λ n. suc n) (length-map f xs)
 
+-- ---- sections from which others may branch
+
+-- one of the sections has the number, and doesn't branch
+abbrev pub HasStem : List Section → ℕ → Type 0
+HasStem [] id = ⊥
+HasStem (s ∷ ss) id = ((s.id ≡ id) × (s.parent ≡ None)) ⊎ HasStem ss id
+
+abbrev pub MayBranch : List Section → Option ℕ → Type 0
+MayBranch ss None = Unit {0}
+MayBranch ss (Some id) = HasStem ss id
+
+among : (ss : List Section) (id : ℕ) → HasStem ss id → (s : Section) × (Contains ss s × ((s.id ≡ id) × (s.parent ≡ None)))
+among [] id h = absurd h
+among (s ∷ ss) id (inl h) = (s, ((zero, omega arith, refl), h))
+among (s ∷ ss) id (inr h) = let r = among ss id h in (r.0, ((suc r.1.0.0, omega (arith, r.1.0.1), r.1.0.2), r.1.1))
+
+parent_among : (ss : List Section) (o : Option ℕ) → MayBranch ss o → IsParentAmong ss o
+parent_among ss None h = tt
+parent_among ss (Some id) h = among ss id h
+
+-- a change of the last section that leaves its number and its parent
+stem-on_last : (f : Section → Section) → ((s : Section) → (f s).id ≡ s.id) → ((s : Section) → (f s).parent ≡ s.parent) → (ss : List Section) (id : ℕ) → HasStem ss id → HasStem (on_last f ss) id
+stem-on_last f i p [] id h = h
+stem-on_last f i p (s ∷ []) id (inl h) = inl (i s ∙ h.0, p s ∙ h.1)
+stem-on_last f i p (s ∷ []) id (inr h) = inr h
+stem-on_last f i p (s ∷ t ∷ ss) id (inl h) = inl h
+stem-on_last f i p (s ∷ t ∷ ss) id (inr h) = inr (stem-on_last f i p (t ∷ ss) id h)
+
+may-on_last : (f : Section → Section) → ((s : Section) → (f s).id ≡ s.id) → ((s : Section) → (f s).parent ≡ s.parent) → (ss : List Section) (o : Option ℕ) → MayBranch ss o → MayBranch (on_last f ss) o
+may-on_last f i p ss None h = tt
+may-on_last f i p ss (Some id) h = stem-on_last f i p ss id h
+
+stand-on_last : (f : Section → Section) → ((s : Section) → (f s).parent ≡ s.parent) → (before ss : List Section) → ParentsStand before ss → ParentsStand before (on_last f ss)
+stand-on_last f p before [] h = tt
+stand-on_last f p before (s ∷ []) h = (subst (λ (o : Option ℕ). IsParentAmong before o) (sym (p s)) h.0, tt)
+stand-on_last f p before (s ∷ t ∷ ss) h = (h.0, stand-on_last f p (before ++ s ∷ []) (t ∷ ss) h.1)
+
 -- a section more
-IsDraft-section : (n : Parts) (t : List ℕ) → IsDraft n → IsDraft (with_section t n)
-IsDraft-section n t h =
-    let new : Section = record { id = n.next_section; name = t; before = []; parent = None; cells = [] } in
-    let cells : section_cells (with_section t n) ≡ section_cells n = flat_map-append cells_of n.sections (new ∷ []) ∙ append-nil (section_cells n) in
+stem-more : (ss : List Section) (s : Section) (id : ℕ) → HasStem ss id → HasStem (ss ++ s ∷ []) id
+stem-more [] s id h = absurd h
+stem-more (t ∷ ss) s id (inl h) = inl h
+stem-more (t ∷ ss) s id (inr h) = inr (stem-more ss s id h)
+
+may-more : (ss : List Section) (s : Section) (o : Option ℕ) → MayBranch ss o → MayBranch (ss ++ s ∷ []) o
+may-more ss s None h = tt
+may-more ss s (Some id) h = stem-more ss s id h
+
+stand-more : (before ss : List Section) (s : Section) → ParentsStand before ss → IsParentAmong (before ++ ss) s.parent → ParentsStand before (ss ++ s ∷ [])
+stand-more before [] s h p = (subst (λ (ts : List Section). IsParentAmong ts s.parent) (append-nil before) p, tt)
+stand-more before (t ∷ ss) s h p = (h.0, stand-more (before ++ t ∷ []) ss s h.1 (subst (λ (ts : List Section). IsParentAmong ts s.parent) (sym (append_assoc before (t ∷ []) ss)) p))
+
+-- the section that is found by its index
+stem_first : (s : Section) (ss : List Section) → MayBranch (s ∷ ss) (stem_number s)
+stem_first s ss = at s.parent refl where
+  at : (o : Option ℕ) → s.parent ≡ o → MayBranch (s ∷ ss) (cond (is_none o) (Some s.id) None)
+  at None e = inl (refl, e)
+  at (Some p) e = tt
+
+may_later : (s : Section) (ss : List Section) (o : Option ℕ) → MayBranch ss o → MayBranch (s ∷ ss) o
+may_later s ss None h = tt
+may_later s ss (Some id) h = inr h
+
+may_at : (index : ℕ) (ss : List Section) → MayBranch ss (stem_at index ss)
+may_at index [] = tt
+may_at zero (s ∷ ss) = stem_first s ss
+may_at (suc i) (s ∷ ss) = may_later s ss (stem_at i ss) (may_at i ss)
+
+-- ---- what holds of each draft that items give
+
+abbrev pub cell_kind : Cell → Kind
+cell_kind c = c.kind
+
+pub record IsBook (n : Parts) : Type 0 where
+  pub setup_number : n.setup.id ≡ 0
+  pub setup_kind : n.setup.kind ≡ cell.Setup
+  pub bin : n.bin ≡ []
+  pub cell_numbers : AreCounted 1 (map cell_number (section_cells n))
+  pub kinds : AllByRecursion IsSectionKind (map cell_kind (section_cells n))
+  pub next_cell : n.next_cell ≡ length (map cell_number (section_cells n)) + 1
+  pub section_numbers : AreCounted 1 (map section_number n.sections)
+  pub next_section : n.next_section ≡ length (map section_number n.sections) + 1
+  pub parents : ParentsStand [] n.sections
+
+pub record IsDraft (d : Draft) : Type 0 where
+  pub book : IsBook d.parts
+  pub parent : MayBranch d.parts.sections d.parent
+
+-- a section more
+IsBook-section : (n : Parts) (name : List ℕ) (before : List (List ℕ)) (parent : Option ℕ) → IsBook n → MayBranch n.sections parent → IsBook (with_section name before parent n)
+IsBook-section n name before parent h may =
+    let new : Section = record { id = n.next_section; name = name; before = before; parent = parent; cells = [] } in
+    let cells : section_cells (with_section name before parent n) ≡ section_cells n = cells-section n name before parent in
+    let numbers : map section_number (n.sections ++ new ∷ []) ≡ map section_number n.sections ++ n.next_section ∷ [] = map-append section_number n.sections (new ∷ []) in
     record {
       setup_number = h.setup_number;
       setup_kind = h.setup_kind;
       bin = h.bin;
-      cell_numbers = rw cells h.cell_numbers;
-      kinds = rw cells h.kinds;
-      next_cell = rw cells h.next_cell;
-      section_numbers = rw map-append (AreCounted-more 1 (map section_number n.sections) n.next_section h.section_numbers (h.next_section ∙ (rw length-map (omega arith))));
-      parents = all_more HasNoParent n.sections new h.parents refl;
-      next_section = rw length-append (omega (arith, h.next_section));
+      cell_numbers = subst (λ (cs : List Cell). AreCounted 1 (map cell_number cs)) (sym cells) h.cell_numbers;
+      kinds = subst (λ (cs : List Cell). AllByRecursion IsSectionKind (map cell_kind cs)) (sym cells) h.kinds;
+      next_cell = h.next_cell ∙ ap (λ (cs : List Cell). length (map cell_number cs) + 1) (sym cells);
+      section_numbers = subst (λ ns. AreCounted 1 ns) (sym numbers) (AreCounted-more 1 (map section_number n.sections) n.next_section h.section_numbers (omega (arith, h.next_section)));
+      next_section = (let e : n.next_section + 1 ≡ (length (map section_number n.sections) + 1) + 1 = ap (λ k. k + 1) h.next_section in e) ∙ ap (λ k. k + 1) (sym (ap length numbers ∙ length-append (map section_number n.sections) (n.next_section ∷ [])));
+      parents = stand-more [] n.sections new h.parents (parent_among n.sections parent may);
     }
 
-IsDraft-some : (n : Parts) → IsDraft n → IsDraft (with_some_section n)
-IsDraft-some n h =
+IsBook-some : (n : Parts) → IsBook n → IsBook (with_some_section n)
+IsBook-some n h =
     elim (is_empty n.sections)
-    as (λ b. IsDraft (cond b (with_section (codes "Section") n) n))
-    [ true ↦ IsDraft-section n (codes "Section") h | false ↦ h ]
+    as (λ b. IsBook (cond b (with_section (codes "Section") [] None n) n))
+    [ true ↦ IsBook-section n (codes "Section") [] None h tt | false ↦ h ]
 
--- the sections stay as they are but for the last one's cells
-section_numbers-last : (c : Cell) (ss : List Section) → map section_number (with_last_cell c ss) ≡ map section_number ss
-section_numbers-last c [] = refl
-section_numbers-last c (s ∷ []) = refl
-section_numbers-last c (s ∷ t ∷ ss) = ap (λ ns. s.id ∷ ns) (section_numbers-last c (t ∷ ss))
+may-some : (n : Parts) (o : Option ℕ) → MayBranch n.sections o → MayBranch (with_some_section n).sections o
+may-some n o h =
+    elim (is_empty n.sections)
+    as (λ b. MayBranch (cond b (with_section (codes "Section") [] None n) n).sections o)
+    [ true ↦ may-more n.sections _ o h | false ↦ h ]
 
-parents-last : (c : Cell) (ss : List Section) → AllByRecursion HasNoParent ss → AllByRecursion HasNoParent (with_last_cell c ss)
-parents-last c [] h = tt
-parents-last c (s ∷ []) h = (h.0, tt)
-parents-last c (s ∷ t ∷ ss) h = (h.0, parents-last c (t ∷ ss) h.1)
-
-IsDraft-cell : (n : Parts) (k : Kind) (t : List ℕ) → IsSectionKind k → 0 < length n.sections → IsDraft n → IsDraft (with_cell k t n)
-IsDraft-cell n k t may some h =
-    let c : Cell = record { id = n.next_cell; kind = k; source = t; before = []; saved = [] } in
-    let cells : section_cells (with_cell k t n) ≡ section_cells n ++ c ∷ [] = cells-with_last_cell c n.sections some in
+-- a cell more
+IsBook-cell : (n : Parts) (kind : Kind) (source : List ℕ) (before : List (List ℕ)) → IsSectionKind kind → IsBook n → IsBook (with_cell kind source before (with_some_section n))
+IsBook-cell n kind source before may h =
+    let some : IsBook (with_some_section n) = IsBook-some n h in
+    let c : Cell = record { id = n.next_cell; kind = kind; source = source; before = before; saved = [] } in
+    let d : Cell = record c { id = (with_some_section n).next_cell } in
+    let cells : section_cells (with_cell kind source before (with_some_section n)) ≡ section_cells n ++ c ∷ [] = cells-cell n kind source before in
+    let numbers : map cell_number (section_cells (with_cell kind source before (with_some_section n))) ≡ map cell_number (section_cells n) ++ n.next_cell ∷ [] = ap (map cell_number) cells ∙ map-append cell_number (section_cells n) (c ∷ []) in
+    let kinds : map cell_kind (section_cells (with_cell kind source before (with_some_section n))) ≡ map cell_kind (section_cells n) ++ kind ∷ [] = ap (map cell_kind) cells ∙ map-append cell_kind (section_cells n) (c ∷ []) in
+    let same : map section_number (on_last (add_cell d) (with_some_section n).sections) ≡ map section_number (with_some_section n).sections = map-on_last section_number (add_cell d) (λ s. refl) (with_some_section n).sections in
     record {
-      setup_number = h.setup_number;
-      setup_kind = h.setup_kind;
-      bin = h.bin;
-      cell_numbers = rw (cells, map-append) (AreCounted-more 1 (map cell_number (section_cells n)) n.next_cell h.cell_numbers (h.next_cell ∙ (rw length-map (omega arith))));
-      kinds = rw cells (all_more IsSectionCell (section_cells n) c h.kinds may);
-      next_cell = rw (cells, length-append) (omega (arith, h.next_cell));
-      section_numbers = rw section_numbers-last h.section_numbers;
-      parents = parents-last c n.sections h.parents;
-      next_section = h.next_section ∙ ap (λ k. k + 1) (sym (length-with_last_cell c n.sections));
+      setup_number = some.setup_number;
+      setup_kind = some.setup_kind;
+      bin = some.bin;
+      cell_numbers = subst (λ ns. AreCounted 1 ns) (sym numbers) (AreCounted-more 1 (map cell_number (section_cells n)) n.next_cell h.cell_numbers (omega (arith, h.next_cell)));
+      kinds = subst (λ (ks : List Kind). AllByRecursion IsSectionKind ks) (sym kinds) (all_more IsSectionKind (map cell_kind (section_cells n)) kind h.kinds may);
+      next_cell = ap (λ k. k + 1) (next_cell-some n ∙ h.next_cell) ∙ ap (λ k. k + 1) (sym (ap length numbers ∙ length-append (map cell_number (section_cells n)) (n.next_cell ∷ [])));
+      section_numbers = subst (λ ns. AreCounted 1 ns) (sym same) some.section_numbers;
+      next_section = some.next_section ∙ ap (λ ns. length ns + 1) (sym same);
+      parents = stand-on_last (add_cell d) (λ s. refl) [] (with_some_section n).sections some.parents;
     }
 
-IsDraft-item : (n : Parts) (i : item.Item) → IsDraft n → IsDraft (with_item n i)
-IsDraft-item n (item.Name t) h = record {
+-- an output more
+IsBook-output : (n : Parts) (o : Saved) → IsBook n → IsBook (with_output o n)
+IsBook-output n o h =
+    let numbers : map cell_number (section_cells (with_output o n)) ≡ map cell_number (section_cells n) = map-output cell_number o (λ c. refl) n in
+    let kinds : map cell_kind (section_cells (with_output o n)) ≡ map cell_kind (section_cells n) = map-output cell_kind o (λ c. refl) n in
+    let first : Parts = record n { setup = record n.setup { saved = n.setup.saved ++ o ∷ [] } } in
+    let last : Parts = record n { sections = on_last (add_last_output o) n.sections } in
+    let same : map section_number (with_output o n).sections ≡ map section_number n.sections =
+    elim (is_empty n.sections)
+    as (λ b. map section_number (cond b first last).sections ≡ map section_number n.sections)
+    [ true ↦ refl | false ↦ map-on_last section_number (add_last_output o) (λ s. refl) n.sections ] in
+    record {
+      setup_number = elim (is_empty n.sections) as (λ b. (cond b first last).setup.id ≡ 0) [ true ↦ h.setup_number | false ↦ h.setup_number ];
+      setup_kind = elim (is_empty n.sections) as (λ b. (cond b first last).setup.kind ≡ cell.Setup) [ true ↦ h.setup_kind | false ↦ h.setup_kind ];
+      bin = elim (is_empty n.sections) as (λ b. (cond b first last).bin ≡ []) [ true ↦ h.bin | false ↦ h.bin ];
+      cell_numbers = subst (λ ns. AreCounted 1 ns) (sym numbers) h.cell_numbers;
+      kinds = subst (λ (ks : List Kind). AllByRecursion IsSectionKind ks) (sym kinds) h.kinds;
+      next_cell = (elim (is_empty n.sections) as (λ b. (cond b first last).next_cell ≡ n.next_cell) [ true ↦ refl | false ↦ refl ]) ∙ (h.next_cell ∙ ap (λ ns. length ns + 1) (sym numbers));
+      section_numbers = subst (λ ns. AreCounted 1 ns) (sym same) h.section_numbers;
+      next_section = (elim (is_empty n.sections) as (λ b. (cond b first last).next_section ≡ n.next_section) [ true ↦ refl | false ↦ refl ]) ∙ (h.next_section ∙ ap (λ ns. length ns + 1) (sym same));
+      parents = elim (is_empty n.sections) as (λ b. ParentsStand [] (cond b first last).sections) [ true ↦ h.parents | false ↦ stand-on_last (add_last_output o) (λ s. refl) [] n.sections h.parents ];
+    }
+
+may-output : (n : Parts) (o : Saved) (p : Option ℕ) → MayBranch n.sections p → MayBranch (with_output o n).sections p
+may-output n o p h =
+    let first : Parts = record n { setup = record n.setup { saved = n.setup.saved ++ o ∷ [] } } in
+    let last : Parts = record n { sections = on_last (add_last_output o) n.sections } in
+    elim (is_empty n.sections)
+    as (λ b. MayBranch (cond b first last).sections p)
+    [ true ↦ h | false ↦ may-on_last (add_last_output o) (λ s. refl) (λ s. refl) n.sections p h ]
+
+-- another name, and another setup source
+IsBook-name : (n : Parts) (name : List ℕ) (before : List (List ℕ)) → IsBook n → IsBook (record n { name = name; before = before })
+IsBook-name n name before h = record {
   setup_number = h.setup_number;
   setup_kind = h.setup_kind;
   bin = h.bin;
@@ -121,11 +230,12 @@ IsDraft-item n (item.Name t) h = record {
   kinds = h.kinds;
   next_cell = h.next_cell;
   section_numbers = h.section_numbers;
-  parents = h.parents;
   next_section = h.next_section;
+  parents = h.parents;
 }
-IsDraft-item n (item.Section t) h = IsDraft-section n (chars t) h
-IsDraft-item n (item.Setup t) h = record {
+
+IsBook-setup : (n : Parts) (source : List ℕ) (before : List (List ℕ)) → IsBook n → IsBook (record n { setup = record n.setup { source = source; before = before } })
+IsBook-setup n source before h = record {
   setup_number = h.setup_number;
   setup_kind = h.setup_kind;
   bin = h.bin;
@@ -133,90 +243,90 @@ IsDraft-item n (item.Setup t) h = record {
   kinds = h.kinds;
   next_cell = h.next_cell;
   section_numbers = h.section_numbers;
-  parents = h.parents;
   next_section = h.next_section;
+  parents = h.parents;
 }
-IsDraft-item n (item.Code t) h = IsDraft-cell (with_some_section n) cell.Code (chars t) tt (some_length n) (IsDraft-some n h)
-IsDraft-item n (item.Markdown t) h = IsDraft-cell (with_some_section n) cell.Markdown (chars t) tt (some_length n) (IsDraft-some n h)
-IsDraft-item n item.Blank h = h
 
-IsDraft-fold : (n : Parts) (is : List item.Item) → IsDraft n → IsDraft (fold with_item n is)
-IsDraft-fold n [] h = h
-IsDraft-fold n (i ∷ is) h = IsDraft-fold (with_item n i) is (IsDraft-item n i h)
+IsBook-after : (n : Parts) (after : List (List ℕ)) → IsBook n → IsBook (record n { after = after })
+IsBook-after n after h = record {
+  setup_number = h.setup_number;
+  setup_kind = h.setup_kind;
+  bin = h.bin;
+  cell_numbers = h.cell_numbers;
+  kinds = h.kinds;
+  next_cell = h.next_cell;
+  section_numbers = h.section_numbers;
+  next_section = h.next_section;
+  parents = h.parents;
+}
 
-pub IsDraft-book_of : (is : List item.Item) → IsDraft (book_of is)
-IsDraft-book_of is = IsDraft-fold untitled is (record { setup_number = refl; setup_kind = refl; bin = refl; cell_numbers = tt; kinds = tt; next_cell = refl; section_numbers = tt; parents = tt; next_section = refl })
+-- ---- each item
 
--- the rules
-parents_stand : (before ss : List Section) → AllByRecursion HasNoParent ss → ParentsStand before ss
-parents_stand before [] h = tt
-parents_stand before (s ∷ ss) h = (subst (λ (p : Option ℕ). IsParentAmong before p) (sym h.0) tt, parents_stand (before ++ s ∷ []) ss h.1)
+IsDraft-cell : (d : Draft) (kind : Kind) (source : List ℕ) → IsSectionKind kind → IsDraft d → IsDraft (take_cell kind source d)
+IsDraft-cell d kind source may h = record {
+  book = IsBook-cell d.parts kind source d.waiting may h.book;
+  parent = may-on_last _ (λ s. refl) (λ s. refl) (with_some_section d.parts).sections d.parent (may-some d.parts d.parent h.parent);
+}
 
-pub IsNotebook-draft : (n : Parts) → IsDraft n → HasFewSections n → HasFewCells n → IsNotebook n
-IsNotebook-draft n h few few_cells =
+IsDraft-branch : (d : Draft) (number : ℕ) (o : Option ℕ) → MayBranch d.parts.sections o → IsDraft d → IsDraft (take_branch number o d)
+IsDraft-branch d number None may h = record { book = h.book; parent = h.parent }
+IsDraft-branch d number (Some id) may h = record { book = h.book; parent = may }
+
+IsDraft-item : (d : Draft) (i : item.Item) → IsDraft d → IsDraft (with_item d i)
+IsDraft-item d (item.Name text) h = record { book = IsBook-name d.parts (chars text) d.waiting h.book; parent = h.parent }
+IsDraft-item d (item.Section text) h = record { book = IsBook-section d.parts (chars text) d.waiting d.parent h.book h.parent; parent = tt }
+IsDraft-item d (item.Setup source) h = record { book = IsBook-setup d.parts (chars source) d.waiting h.book; parent = h.parent }
+IsDraft-item d (item.Code source) h = IsDraft-cell d cell.Code (chars source) tt h
+IsDraft-item d (item.Markdown source) h = IsDraft-cell d cell.Markdown (chars source) tt h
+IsDraft-item d (item.Saved info text) h = record { book = IsBook-output d.parts _ h.book; parent = may-output d.parts _ d.parent h.parent }
+IsDraft-item d (item.Kept line) h = record { book = h.book; parent = h.parent }
+IsDraft-item d (item.Stamp line) h = h
+IsDraft-item d (item.Branch number index) h = IsDraft-branch d number (stem_at index d.parts.sections) (may_at index d.parts.sections) h
+IsDraft-item d item.Dropped h = h
+IsDraft-item d (item.Misplaced number) h = record { book = h.book; parent = h.parent }
+
+IsDraft-fold : (d : Draft) (is : List item.Item) → IsDraft d → IsDraft (fold with_item d is)
+IsDraft-fold d [] h = h
+IsDraft-fold d (i ∷ is) h = IsDraft-fold (with_item d i) is (IsDraft-item d i h)
+
+pub IsDraft-items : (is : List item.Item) → IsDraft (fold with_item new_draft is)
+IsDraft-items is = IsDraft-fold new_draft is (record {
+  book = record { setup_number = refl; setup_kind = refl; bin = refl; cell_numbers = tt; kinds = tt; next_cell = refl; section_numbers = tt; next_section = refl; parents = tt };
+  parent = tt;
+})
+
+-- ---- the numbers that come next, and the rules
+
+pub next_section-is : (d : Draft) → IsDraft d → d.parts.next_section ≡ length d.parts.sections + 1
+next_section-is d h = h.book.next_section ∙ ap (λ n. n + 1) (length-map section_number d.parts.sections)
+
+pub next_cell-is : (d : Draft) → IsDraft d → d.parts.next_cell ≡ length (section_cells d.parts) + 1
+next_cell-is d h = h.book.next_cell ∙ ap (λ n. n + 1) (length-map cell_number (section_cells d.parts))
+
+section_kinds : (cs : List Cell) → AllByRecursion IsSectionKind (map cell_kind cs) → AllByRecursion IsSectionCell cs
+section_kinds [] h = tt
+section_kinds (c ∷ cs) h = (h.0, section_kinds cs h.1)
+
+IsNotebook-book : (n : Parts) → IsBook n → HasFewSections n → HasFewCells n → IsNotebook n
+IsNotebook-book n h few few_cells =
     let cells : numbered_cells n ≡ section_cells n = ap (λ cs. section_cells n ++ cs) h.bin ∙ append-nil (section_cells n) in
     let cell_ns : AreDistinct (0 ∷ map cell_number (section_cells n)) =
     (λ there. not_there 1 (map cell_number (section_cells n)) 0 h.cell_numbers (omega arith) there, distinct 1 (map cell_number (section_cells n)) h.cell_numbers) in
     let cells_below : AllByRecursion (IsBelow n.next_cell) (0 ∷ map cell_number (section_cells n)) =
-    (omega (arith, h.next_cell), all_below 1 (map cell_number (section_cells n)) n.next_cell h.cell_numbers (rw length-map (omega (arith, h.next_cell)))) in
+    (omega (arith, h.next_cell), all_below 1 (map cell_number (section_cells n)) n.next_cell h.cell_numbers (omega (arith, h.next_cell))) in
     record {
       setup_number = h.setup_number;
       setup_kind = h.setup_kind;
-      kinds = subst (λ (cs : List Cell). AllByRecursion IsSectionCell cs) (sym cells) h.kinds;
+      kinds = subst (λ (cs : List Cell). AllByRecursion IsSectionCell cs) (sym cells) (section_kinds (section_cells n) h.kinds);
       cell_numbers = subst (λ (cs : List Cell). AreDistinct (0 ∷ map cell_number cs)) (sym cells) cell_ns;
       next_cell = subst (λ (cs : List Cell). AllByRecursion (IsBelow n.next_cell) (0 ∷ map cell_number cs)) (sym cells) cells_below;
       section_numbers = (λ there. not_there 1 (map section_number n.sections) 0 h.section_numbers (omega arith) there, distinct 1 (map section_number n.sections) h.section_numbers);
-      next_section = (omega (arith, h.next_section), all_below 1 (map section_number n.sections) n.next_section h.section_numbers (rw length-map (omega (arith, h.next_section))));
-      parents = parents_stand [] n.sections h.parents;
+      next_section = (omega (arith, h.next_section), all_below 1 (map section_number n.sections) n.next_section h.section_numbers (omega (arith, h.next_section)));
+      parents = h.parents;
       few_sections = few;
       few_cells = few_cells.cells;
       few_code_cells = few_cells.code_cells;
     }
 
-pub IsNotebook-book_of : (is : List item.Item) → HasFewSections (book_of is) → HasFewCells (book_of is) → IsNotebook (book_of is)
-IsNotebook-book_of is few few_cells = IsNotebook-draft (book_of is) (IsDraft-book_of is) few few_cells
-
--- more items don't make fewer sections or cells
-sections-item : (n : Parts) (i : item.Item) → length n.sections ≤ length (with_item n i).sections
-sections-item n (item.Name t) = omega arith
-sections-item n (item.Section t) = rw sections-section (omega arith)
-sections-item n (item.Setup t) = omega arith
-sections-item n (item.Code t) = rw sections-code (omega arith)
-sections-item n (item.Markdown t) = rw sections-markdown (omega arith)
-sections-item n item.Blank = omega arith
-
-cells-item : (n : Parts) (i : item.Item) → length (section_cells n) ≤ length (section_cells (with_item n i))
-cells-item n (item.Name t) = omega arith
-cells-item n (item.Section t) = rw (cell_count-section n t) (omega arith)
-cells-item n (item.Setup t) = omega arith
-cells-item n (item.Code t) = rw (cell_count-code n t) (omega arith)
-cells-item n (item.Markdown t) = rw (cell_count-markdown n t) (omega arith)
-cells-item n item.Blank = omega arith
-
-sections-fold : (n : Parts) (is : List item.Item) → length n.sections ≤ length (fold with_item n is).sections
-sections-fold n [] = omega arith
-sections-fold n (i ∷ is) = omega (arith, sections-item n i, sections-fold (with_item n i) is)
-
-cells-fold : (n : Parts) (is : List item.Item) → length (section_cells n) ≤ length (section_cells (fold with_item n is))
-cells-fold n [] = omega arith
-cells-fold n (i ∷ is) = omega (arith, cells-item n i, cells-fold (with_item n i) is)
-
-pub sections-front : (is js : List item.Item) → length (book_of is).sections ≤ length (book_of (is ++ js)).sections
-sections-front is js = rw fold-append (sections-fold (book_of is) js)
-
-pub cells-front : (is js : List item.Item) → length (section_cells (book_of is)) ≤ length (section_cells (book_of (is ++ js)))
-cells-front is js = rw fold-append (cells-fold (book_of is) js)
-
--- no section branches from another
-pub IsUnbranched-book_of : (is : List item.Item) → IsUnbranched (book_of is)
-IsUnbranched-book_of is = (IsDraft-book_of is).parents
-
--- no item gives a notice
-pub notices_of-none : (is : List item.Item) → notices_of is ≡ []
-notices_of-none [] = refl
-notices_of-none (item.Name t ∷ is) = notices_of-none is
-notices_of-none (item.Section t ∷ is) = notices_of-none is
-notices_of-none (item.Setup t ∷ is) = notices_of-none is
-notices_of-none (item.Code t ∷ is) = notices_of-none is
-notices_of-none (item.Markdown t ∷ is) = notices_of-none is
-notices_of-none (item.Blank ∷ is) = notices_of-none is
+pub IsNotebook-finished : (d : Draft) → IsDraft d → HasFewSections d.parts → HasFewCells d.parts → IsNotebook (finished d)
+IsNotebook-finished d h few few_cells = IsNotebook-book (finished d) (IsBook-after d.parts d.waiting h.book) few (record { cells = few_cells.cells; code_cells = few_cells.code_cells })

@@ -1,7 +1,3 @@
-pub mod Book
-pub mod Items
-pub mod Kinds
-pub mod Lines
-pub mod Reads
-pub mod Seen
+pub mod Causes
 pub mod Resume
+pub mod Views

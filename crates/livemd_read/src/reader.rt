@@ -1,13 +1,13 @@
 //! From bytes to a notebook.
-ghost use Rattle.std.specs.Prelude.{IfOk, OnOk, MatchResult};
-ghost use Rattle.notebook.specs.Flow.{IsUnbranched};
-ghost use Rattle.livemd_read.specs.Reads.{Reads, IsAccepted, IsBookCause};
+ghost use Rattle.std.specs.Prelude.{OnOk, MatchResult};
+ghost use Rattle.livemd_format.specs.Reads.{Reads};
+ghost use Rattle.livemd_read.specs.Causes.{IsAccepted, IsBookCause};
 
-use crate::build::{cell_count, code_cell_count, notebook_of, section_count};
-use crate::items::read_items;
-use crate::kinds::first_unbuilt_line;
+use crate::build::built;
+use crate::count::{cell_count, code_cell_count, section_count};
+use crate::settle::settle;
+use crate::take::read_items;
 use crate::types::{BookError, Read};
-use plain_list::Items;
 use std::alloc::Global;
 
 /// How many bytes a book has at most.
@@ -26,7 +26,6 @@ const MOST_CODE_CELLS: usize = 1_000;
 pub fn read(alloc: Global, bytes: &[u8]) -> Result<Read, BookError>
     ensures read { MatchResult result (λ r. Reads bytes.now r.notebook r.notices) (IsBookCause bytes.now) }
     ensures accepted { OnOk result (IsAccepted bytes.now) }
-    ensures unbranched { IfOk result (λ r. IsUnbranched r.notebook) }
 {
     if bytes.len() > MOST_BYTES {
         return Err(BookError::TooLarge);
@@ -39,22 +38,17 @@ pub fn read(alloc: Global, bytes: &[u8]) -> Result<Read, BookError>
             });
         }
     };
-    if let Some(line) = first_unbuilt_line(text) {
-        return Err(BookError::Unbuilt { line });
-    }
     let items = read_items(alloc, text)?;
-    if section_count(&items) > MOST_SECTIONS {
+    let settled = settle(alloc, items)?;
+    if section_count(&settled) > MOST_SECTIONS {
         return Err(BookError::TooManySections);
     }
-    if cell_count(&items) > MOST_CELLS {
+    if cell_count(&settled) > MOST_CELLS {
         return Err(BookError::TooManyCells);
     }
-    if code_cell_count(&items) > MOST_CODE_CELLS {
+    if code_cell_count(&settled) > MOST_CODE_CELLS {
         return Err(BookError::TooManyCells);
     }
-    let notebook = notebook_of(alloc, &items)?;
-    Ok(Read {
-        notebook,
-        notices: Items::new(alloc),
-    })
+    let read = built(alloc, &settled)?;
+    Ok(read)
 }

@@ -2,27 +2,11 @@
 ghost use Rattle.std.specs.Prelude.{◌≡◌};
 ghost use Rattle.livemd_read.specs.declared.types.BookError.TheVariants.{OutOfMemory};
 
+use livemd_format::Notice;
 use notebook::Notebook;
 use plain_list::Items;
 use std::alloc::AllocError;
 use thiserror::Error;
-
-/// What a notice says of its metadata line.
-#[derive(Clone, Copy, Debug, PartialEq, Eq)]
-pub enum NoticeKind {
-    /// The line names no section that a section may branch from.
-    BadBranch,
-    /// The line stands where it applies to nothing.
-    Misplaced,
-}
-
-/// A metadata line that was read as if it weren't there.
-#[derive(Clone, Copy, Debug, PartialEq, Eq)]
-pub struct Notice {
-    /// The number of the line, from 1.
-    pub line: u64,
-    pub kind: NoticeKind,
-}
 
 /// A book as it was read.
 #[derive(Debug, Drop)]
@@ -42,10 +26,6 @@ pub enum BookError {
     /// The bytes aren't UTF-8: the longest front that is has `at` bytes. Place 0 of the byte FF.
     #[error("the book is not UTF-8 from byte {at} on")]
     NotUtf8 { at: u64 },
-    /// The line, counted from 1, is the first outside code cells that begins with `<!-- livebook:` or
-    /// opens a fence that is no code cell. Such books aren't read yet.
-    #[error("line {line} has a form that is not built")]
-    Unbuilt { line: u64 },
     /// The notebook would have more than 1,000 sections.
     #[error("the book has more than 1000 sections")]
     TooManySections,

@@ -1,7 +1,7 @@
 -- The texts of blocks, as they are put together.
-use Rattle.std.proofs.Common.{◌≡◌, ℕ, ◌+◌, ◌<◌, ◌≤◌, zero, suc, max, Bool, true, false, ◌&&◌, cond, List, [], ◌∷◌, ◌++◌, length, drop, get_or, map, replicate, refl, sym, ap, ◌∙◌, arith, append_assoc, add-one, codes, drop_of_length-le, length-append}
+use Rattle.std.proofs.Common.{◌≡◌, ℕ, ◌+◌, ◌<◌, ◌≤◌, zero, suc, max, Bool, true, false, ◌&&◌, cond, List, [], ◌∷◌, ◌++◌, length, drop, get_or, refl, sym, ap, ◌∙◌, arith, append_assoc, add-one, codes, drop_of_length-le, length-append}
 use Rattle.std.specs.Prelude.{◌==◌, decimal, encode_utf8_all}
-use Rattle.std.specs.List.{flat_map, slice_split, onto_first}
+use Rattle.std.specs.List.{flat_map, onto_first}
 use Rattle.std.proofs.Math.Seq.{drop-cons}
 use Rattle.std.proofs.lemmas.Bool.Decides.{nat_tests}
 use Rattle.std.proofs.lemmas.List.{append-nil}
@@ -243,16 +243,10 @@ some_blocks n =
     let count : length (kept_blocks n.before ++ more) ≡ length (kept_blocks n.before) + length more = length-append (kept_blocks n.before) more in
     omega arith
 
-text_if : (bs : List Block) → 0 < length bs → drop 1 (blocks_text bs) ≡ text_of_lines (block_lines bs)
+text_if : (bs : List Block) → 0 < length bs → blocks_text bs ≡ 10 ∷ text_of_lines (block_lines bs)
 text_if [] h = absurd (omega arith)
-text_if (b ∷ bs) h = first_gone b bs
+text_if (b ∷ bs) h = ap (λ w. 10 ∷ w) (first_gone b bs)
 
-some_if : (bs : List Block) → 0 < length bs → 0 < length (blocks_text bs)
-some_if [] h = absurd (omega arith)
-some_if (b ∷ bs) h = omega arith
-
-pub page_text : (n : Parts) → drop 1 (blocks_text (blocks n)) ≡ text_of n
+-- each block stands behind an empty line, the first one too
+pub page_text : (n : Parts) → blocks_text (blocks n) ≡ 10 ∷ text_of n
 page_text n = text_if (blocks n) (some_blocks n)
-
-pub page_some : (n : Parts) → 0 < length (blocks_text (blocks n))
-page_some n = some_if (blocks n) (some_blocks n)

@@ -1,12 +1,12 @@
 -- Cells and sections, tidy, one after the other.
-use Rattle.std.proofs.Common.{◌≡◌, ℕ, ◌+◌, ◌<◌, ◌≤◌, zero, suc, Bool, true, false, cond, List, [], ◌∷◌, ◌++◌, length, drop, get_or, map, filter, refl, sym, ap, ◌∙◌, arith, append_assoc, drop_of_length-le, length-append}
+use Rattle.std.proofs.Common.{◌≡◌, ℕ, ◌+◌, ◌≤◌, suc, Bool, true, false, cond, List, [], ◌∷◌, ◌++◌, length, drop, map, filter, refl, sym, ap, ◌∙◌, arith, append_assoc, drop_of_length-le, length-append}
 use Rattle.std.specs.List.{flat_map}
 use Rattle.std.proofs.lemmas.List.{append-nil}
 use Rattle.notebook.specs.declared.parts.Cell.{Cell}
 use Rattle.notebook.specs.declared.parts.Section.{Section}
 use Rattle.notebook.specs.Book.{cells_of}
-use Rattle.livemd_lines.specs.Lines.{is_empty}
 use Rattle.livemd_format.specs.Tidy.{numbered, stays, tidy_cell, tidy_cells, tidy_section, tidy_sections}
+use Rattle.livemd_format.proofs.TidyBooks.{length-numbered}
 use Rattle.livemd_write.specs.Cells.{PutsCell}
 
 -- ---- loops that put what a function makes of each element
@@ -56,10 +56,6 @@ cells_last cells i a whole id all h =
     sym (append-nil a) ∙ (ap (λ cs. a ++ numbered id (tidy_cells cs)) (sym none) ∙ h)
 
 -- ---- how many cells
-
-pub length-numbered : (n : ℕ) (cs : List Cell) → length (numbered n cs) ≡ length cs
-length-numbered n [] = refl
-length-numbered n (c ∷ cs) = ap (λ k. suc k) (length-numbered (suc n) cs)
 
 pub fewer : (cs : List Cell) → length (tidy_cells cs) ≤ length cs
 fewer [] = omega arith

@@ -1,5 +1,6 @@
 mod Blocks
 mod Keeping
 mod Pieces
+mod Telling
 mod Tidying
 mod Trims

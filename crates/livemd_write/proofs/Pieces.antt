@@ -1,18 +1,18 @@
 -- Lines cut, cleaned, joined and fed.
-use Rattle.std.proofs.Common.{◌≡◌, ℕ, ◌+◌, ◌-◌, ◌<◌, ◌≤◌, suc, zero, Bool, true, false, ◌&&◌, ◌||◌, cond, List, [], ◌∷◌, ◌++◌, Option, Some, None, length, take, drop, get_or, map, replicate, refl, sym, ap, ◌∙◌, append_assoc, arith}
+use Rattle.std.proofs.Common.{◌≡◌, ℕ, ◌+◌, ◌-◌, ◌<◌, ◌≤◌, suc, zero, Bool, true, false, ◌||◌, cond, List, [], ◌∷◌, ◌++◌, Option, Some, None, length, take, get_or, map, refl, sym, ap, ◌∙◌, append_assoc, arith}
 use Rattle.std.specs.Prelude.{◌==◌, IfOk, Result, Ok, Err, chars, encode_utf8_all}
 use Rattle.std.specs.Borrow.{Bor}
 use Rattle.std.specs.List.{AllByRecursion, flat_map, join_with_byte, onto_first, slice_split}
 use Rattle.std.proofs.lemmas.List.{append-nil, map-append}
 use Rattle.livemd_lines.specs.declared.fences.Fence.{Fence}
-use Rattle.livemd_lines.specs.Lines.{drop_end, drop_front, is_blank, is_cr, is_empty, is_lf, is_space, joined, lines}
-use Rattle.livemd_lines.specs.Kinds.{Kinded, kinds_in, kind_in, open_after}
-use Rattle.livemd_lines.specs.Written.{HasNoFeed, IsLine, open_behind, text_of_lines}
+use Rattle.livemd_lines.specs.Lines.{drop_end, drop_front, is_blank, is_cr, is_space, joined, lines}
+use Rattle.livemd_lines.specs.Kinds.{kinds_in, kind_in, open_after}
+use Rattle.livemd_lines.specs.Written.{IsLine, open_behind, text_of_lines}
 use Rattle.livemd_lines.proofs.Feeds.{lines-text_of_lines}
-use Rattle.livemd_write.proofs.Blocks.{text_of_lines-append}
-use Rattle.livemd_write.proofs.Trims.{drop_end-gone, drop_end-kept}
-use Rattle.livemd_format.specs.Tidy.{changed, clean, clean_pieces, closed, closing_lines, pieces, spaced, tidy_markdown, tidy_name, unblanked}
+use Rattle.livemd_format.specs.Tidy.{changed, clean, clean_pieces, closed, closing_lines, spaced, tidy_markdown, tidy_name, unblanked}
+use Rattle.livemd_format.proofs.Trimming.{all_end, all_front, drop_end-gone, drop_end-kept, lines_of_clean}
 use Rattle.livemd_write.specs.Texts.{closing_text, joined_by, left_open, space_for, texts}
+use Rattle.livemd_write.proofs.Blocks.{text_of_lines-append}
 
 pub pieces_on : (ls ls2 xs : List (Bor (List ℕ))) (l x : Bor (List ℕ)) → texts ls ≡ map (drop_end is_cr) (texts xs) → ls2 ≡ ls ++ l ∷ [] → l.now ≡ drop_end is_cr x.now → texts ls2 ≡ map (drop_end is_cr) (texts (xs ++ x ∷ []))
 pieces_on ls ls2 xs l x h e s =
@@ -83,59 +83,8 @@ all_spaced (b ∷ t) = ap (λ c. c ∷ map (space_for 13) (map (space_for 10) t)
 
 -- ---- clean pieces are lines
 
-no_feed_end : (l : List ℕ) → HasNoFeed l → HasNoFeed (drop_end is_cr l)
-no_feed_end [] h = tt
-no_feed_end (c ∷ l) h =
-    elim (is_cr c && is_empty (drop_end is_cr l))
-    as (λ b. HasNoFeed (cond b [] (c ∷ drop_end is_cr l)))
-    [ true ↦ tt | false ↦ (h.0, no_feed_end l h.1) ]
-
-drop_end-cons : (c : ℕ) (l : List ℕ) (b : Bool) → drop_end is_cr l ≡ l → (is_cr c && is_empty l) ≡ b → cond b [] (c ∷ l) ≡ c ∷ l → drop_end is_cr (c ∷ l) ≡ c ∷ l
-drop_end-cons c l b h e f = ap (λ w. cond (is_cr c && is_empty w) [] (c ∷ w)) h ∙ (ap (λ (v : Bool). cond v [] (c ∷ l)) e ∙ f)
-
-drop_end-twice : (l : List ℕ) → drop_end is_cr (drop_end is_cr l) ≡ drop_end is_cr l
-drop_end-twice [] = refl
-drop_end-twice (c ∷ l) =
-    elim (is_cr c && is_empty (drop_end is_cr l))
-    as (λ b. (is_cr c && is_empty (drop_end is_cr l)) ≡ b → drop_end is_cr (cond b [] (c ∷ drop_end is_cr l)) ≡ cond b [] (c ∷ drop_end is_cr l))
-    [ true ↦ λ e. refl | false ↦ λ e. drop_end-cons c (drop_end is_cr l) false (drop_end-twice l) e refl ]
-    refl
-
-feeds_onto : (b : ℕ) (ps : List (List ℕ)) → is_lf b ≡ false → AllByRecursion HasNoFeed ps → AllByRecursion HasNoFeed (onto_first b ps)
-feeds_onto b [] e h = ((e, tt), tt)
-feeds_onto b (p ∷ ps) e h = ((e, h.0), h.1)
-
-no_feeds : (t : List ℕ) → AllByRecursion HasNoFeed (slice_split is_lf t)
-no_feeds [] = (tt, tt)
-no_feeds (b ∷ t) =
-    elim (is_lf b)
-    as (λ v. is_lf b ≡ v → AllByRecursion HasNoFeed (cond v ([] ∷ slice_split is_lf t) (onto_first b (slice_split is_lf t))))
-    [ true ↦ λ e. (tt, no_feeds t) | false ↦ λ e. feeds_onto b (slice_split is_lf t) e (no_feeds t) ]
-    refl
-
-clean_lines : (ps : List (List ℕ)) → AllByRecursion HasNoFeed ps → AllByRecursion IsLine (map (drop_end is_cr) ps)
-clean_lines [] h = tt
-clean_lines (p ∷ ps) h = ((no_feed_end p h.0, drop_end-twice p), clean_lines ps h.1)
-
-pub lines_of_clean : (t : List ℕ) → AllByRecursion IsLine (clean_pieces t)
-lines_of_clean t = clean_lines (pieces t) (no_feeds t)
-
-all_front : (P : List ℕ → Type 0) (ls : List (List ℕ)) → AllByRecursion P ls → AllByRecursion P (drop_front is_blank ls)
-all_front P [] h = tt
-all_front P (l ∷ ls) h =
-    elim (is_blank l)
-    as (λ b. AllByRecursion P (cond b (drop_front is_blank ls) (l ∷ ls)))
-    [ true ↦ all_front P ls h.1 | false ↦ h ]
-
-all_end : (P : List ℕ → Type 0) (ls : List (List ℕ)) → AllByRecursion P ls → AllByRecursion P (drop_end is_blank ls)
-all_end P [] h = tt
-all_end P (l ∷ ls) h =
-    elim (is_blank l && is_empty (drop_end is_blank ls))
-    as (λ b. AllByRecursion P (cond b [] (l ∷ drop_end is_blank ls)))
-    [ true ↦ tt | false ↦ (h.0, all_end P ls h.1) ]
-
 pub lines_unblanked : (t : List ℕ) → AllByRecursion IsLine (unblanked (clean_pieces t))
-lines_unblanked t = all_end IsLine (drop_front is_blank (clean_pieces t)) (all_front IsLine (clean_pieces t) (lines_of_clean t))
+lines_unblanked t = all_end IsLine is_blank (drop_front is_blank (clean_pieces t)) (all_front IsLine is_blank (clean_pieces t) (lines_of_clean t))
 
 -- ---- the tidy form of Markdown text, as the code makes it
 

@@ -1,16 +1,17 @@
 -- The tidy form of a notebook keeps the rules of notebooks.
-use Rattle.std.proofs.Common.{◌≡◌, ◌⊎◌, inl, inr, ℕ, ◌+◌, ◌<◌, ◌≤◌, zero, suc, Bool, true, false, cond, List, [], ◌∷◌, ◌++◌, Option, None, Some, length, map, filter, refl, sym, ap, ◌∙◌, arith, subst, append_assoc, length-append, eqb-true, eq-eqb}
+use Rattle.std.proofs.Common.{◌≡◌, ◌⊎◌, inl, inr, ℕ, ◌+◌, ◌<◌, ◌≤◌, zero, suc, true, false, cond, List, [], ◌∷◌, ◌++◌, Option, None, Some, length, map, filter, refl, sym, ap, ◌∙◌, arith, subst, append_assoc, length-append, eqb-true, eq-eqb}
 use Rattle.std.specs.Prelude.{◌==◌, Contains, option_map}
 use Rattle.std.specs.List.{AllByRecursion, flat_map}
 use Rattle.std.proofs.lemmas.List.{append-nil, map-append}
 use Rattle.notebook.specs.declared.parts.Cell.{Cell}
 use Rattle.notebook.specs.declared.parts.Section.{Section}
 use Rattle.notebook.specs.declared.parts.Parts.{Parts}
-use Rattle.notebook.specs.declared.parts.Kind.{Kind}
 use Rattle.notebook.specs.Book.{cells_of, section_cells}
-use Rattle.notebook.specs.Rules.{IsNotebook, cell_number, section_number, AreDistinct, IsSectionKind, IsSectionCell, IsBelow, IsParentAmong, ParentsStand, code_count, code_weight, numbered_cells}
+use Rattle.notebook.specs.Rules.{IsNotebook, cell_number, section_number, AreDistinct, IsSectionCell, IsBelow, IsParentAmong, ParentsStand, code_count, code_weight}
 use Rattle.livemd_format.specs.Tidy.{number_from, numbered, stays, tidied, tidy_cell, tidy_cells, tidy_section, tidy_sections}
-use Rattle.livemd_write.proofs.Keeping.{fewer_in_all, length-numbered, length-sections}
+use Rattle.livemd_format.proofs.TidyBooks.{all_left, all_right, front_distinct, length-numbered}
+use Rattle.livemd_format.proofs.Trimming.{all_more}
+use Rattle.livemd_write.proofs.Keeping.{fewer_in_all, length-sections}
 
 -- ---- numbers that count up
 
@@ -35,7 +36,7 @@ all_below : (k : ℕ) (ns : List ℕ) (next : ℕ) → AreCounted k ns → k + l
 all_below k [] next h le = tt
 all_below k (n ∷ ns) next h le = (omega (arith, h.0), all_below (suc k) ns next h.1 (omega arith))
 
-length-map : {X Y : Type 0} (f : X → Y) (xs : List X) → length (map f xs) ≡ length xs
+pub length-map : {X Y : Type 0} (f : X → Y) (xs : List X) → length (map f xs) ≡ length xs
 length-map f [] = refl
 length-map f (x ∷ xs) = ap (λ n. suc n) (length-map f xs)
 
@@ -64,22 +65,10 @@ kinds_tidy (c ∷ cs) h =
     as (λ b. AllByRecursion IsSectionCell (cond b (tidy_cell c ∷ filter stays (map tidy_cell cs)) (filter stays (map tidy_cell cs))))
     [ true ↦ (h.0, kinds_tidy cs h.1) | false ↦ kinds_tidy cs h.1 ]
 
-all_of_both : {X : Type 0} (P : X → Type 0) (xs ys : List X) → AllByRecursion P xs → AllByRecursion P ys → AllByRecursion P (xs ++ ys)
-all_of_both P [] ys h g = g
-all_of_both P (x ∷ xs) ys h g = (h.0, all_of_both P xs ys h.1 g)
-
-all_left : {X : Type 0} (P : X → Type 0) (xs ys : List X) → AllByRecursion P (xs ++ ys) → AllByRecursion P xs
-all_left P [] ys h = tt
-all_left P (x ∷ xs) ys h = (h.0, all_left P xs ys h.1)
-
-all_right : {X : Type 0} (P : X → Type 0) (xs ys : List X) → AllByRecursion P (xs ++ ys) → AllByRecursion P ys
-all_right P [] ys h = h
-all_right P (x ∷ xs) ys h = all_right P xs ys h.1
-
 kinds_all : (all ss : List Section) (number next : ℕ) → AllByRecursion IsSectionCell (flat_map cells_of ss) → AllByRecursion IsSectionCell (flat_map cells_of (tidy_sections all number next ss))
 kinds_all all [] number next h = tt
 kinds_all all (s ∷ ss) number next h =
-    all_of_both IsSectionCell (numbered next (tidy_cells s.cells)) _ (kinds_numbered next (tidy_cells s.cells) (kinds_tidy s.cells (all_left IsSectionCell s.cells (flat_map cells_of ss) h))) (kinds_all all ss (suc number) (next + length (tidy_cells s.cells)) (all_right IsSectionCell s.cells (flat_map cells_of ss) h))
+    all_more IsSectionCell (numbered next (tidy_cells s.cells)) _ (kinds_numbered next (tidy_cells s.cells) (kinds_tidy s.cells (all_left IsSectionCell s.cells (flat_map cells_of ss) h))) (kinds_all all ss (suc number) (next + length (tidy_cells s.cells)) (all_right IsSectionCell s.cells (flat_map cells_of ss) h))
 
 code_numbered : (k : ℕ) (cs : List Cell) → code_count (numbered k cs) ≡ code_count cs
 code_numbered k [] = refl
@@ -174,14 +163,6 @@ front_more all (t ∷ front) s number next =
     let many : length (cs ++ more) ≡ length (tidy_cells t.cells) + length more = length-append cs more ∙ ap (λ k. k + length more) (length-numbered next (tidy_cells t.cells)) in
     let b : n2 + length more ≡ next + length (cs ++ more) = omega (arith, many) in
     ap (λ us. tidy_section all number next t ∷ us) (front_more all front s (suc number) n2 ∙ (ap (λ k. tidy_sections all (suc number) n2 front ++ tidy_section all k (n2 + length more) s ∷ []) a ∙ ap (λ k. tidy_sections all (suc number) n2 front ++ tidy_section all (number + length (t ∷ front)) k s ∷ []) b))
-
-front_distinct : (front rest : List Section) → AreDistinct (map section_number (front ++ rest)) → AreDistinct (map section_number front)
-front_distinct [] rest h = tt
-front_distinct (s ∷ front) rest h = (λ there. h.0 (subst (λ ns. Contains ns s.id) (sym (map-append section_number front rest)) (there_more (map section_number front) (map section_number rest) s.id there)), front_distinct front rest h.1) where
-  there_more : (ns ms : List ℕ) (n : ℕ) → Contains ns n → Contains (ns ++ ms) n
-  there_more [] ms n (i, within, at) = absurd (omega arith)
-  there_more (m ∷ ns) ms n (zero, within, at) = (zero, omega arith, at)
-  there_more (m ∷ ns) ms n (suc i, within, at) = let r = there_more ns ms n (i, omega arith, at) in (suc r.0, omega (arith, r.1), r.2)
 
 stand_new : (all front ss : List Section) → all ≡ front ++ ss → AreDistinct (map section_number all) → ParentsStand front ss → ParentsStand (tidy_sections all 1 1 front) (tidy_sections all (1 + length front) (1 + length (flat_map cells_of (tidy_sections all 1 1 front))) ss)
 stand_new all front [] e d h = tt

@@ -1,3 +1,4 @@
 pub mod Cells
 pub mod Pages
 pub mod Texts
+pub mod Told

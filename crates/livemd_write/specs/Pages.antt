@@ -1,6 +1,5 @@
 -- The text of blocks, as they are put one behind the other.
 use Rattle.std.specs.Prelude.{◌≡◌, ℕ, List, [], ◌∷◌, ◌++◌}
-use Rattle.std.specs.String.{string_bytes}
 use Rattle.livemd_lines.specs.Written.{text_of_lines}
 use Rattle.livemd_format.specs.Write.{Block}
 

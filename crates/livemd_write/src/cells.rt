@@ -1,8 +1,12 @@
 //! The tidy form of cells.
-ghost use Rattle.std.specs.Prelude.{◌≡◌, ◌++◌, ◌+◌, ◌<◌, ◌≤◌, ◌^◌, List, filter, length, map, IfOk};
+ghost use Rattle.std.specs.Prelude.{◌≡◌, ◌++◌, ◌+◌, ◌<◌, ◌≤◌, ◌^◌, List, filter, length, map, IfOk, OnOk};
+ghost use Rattle.std.specs.List.{AllByRecursion};
+ghost use Rattle.utf16_text.specs.Units.{AreScalars};
 ghost use Rattle.notebook.specs.declared.parts.Cell.{Cell};
+ghost use Rattle.livemd_format.specs.RoundTrip.{AreCellTexts, AreOutputTexts};
 ghost use Rattle.livemd_format.specs.Tidy.{changed, is_markdown, numbered, stays, tidy_before, tidy_cell, tidy_cells, tidy_markdown, tidy_outputs, tidy_saved, tidy_source};
 ghost use Rattle.livemd_write.specs.Cells.{PutsCell};
+ghost use Rattle.livemd_write.specs.Told.{told_cell, told_saved};
 
 use crate::texts::{clean_text, tidy_markdown};
 use notebook::{Cell, CellId, Kind, Saved};
@@ -12,7 +16,8 @@ use utf16_text::Text;
 
 /// Kept lines, tidy.
 pub(crate) fn tidy_kept(alloc: Global, before: &[Text]) -> Result<Items<Text>, AllocError>
-    ensures { IfOk result (λ ls. ls ≡ tidy_before before.now) }
+    ensures tidy { IfOk result (λ ls. ls ≡ tidy_before before.now) }
+    ensures characters { OnOk result (AllByRecursion AreScalars before.now) }
 {
     let mut out = Items::new(alloc);
     for line in before {
@@ -23,7 +28,8 @@ pub(crate) fn tidy_kept(alloc: Global, before: &[Text]) -> Result<Items<Text>, A
 
 /// A saved output, tidy.
 fn tidy_output(alloc: Global, output: &Saved) -> Result<Saved, AllocError>
-    ensures { IfOk result (λ o. o ≡ tidy_saved output.now) }
+    ensures tidy { IfOk result (λ o. o ≡ tidy_saved output.now) }
+    ensures characters { OnOk result (AreOutputTexts output.now) }
 {
     Ok(Saved {
         info: clean_text(alloc, &output.info)?,
@@ -33,7 +39,8 @@ fn tidy_output(alloc: Global, output: &Saved) -> Result<Saved, AllocError>
 
 /// The saved outputs of code, tidy.
 fn tidy_saved(alloc: Global, saved: &[Saved]) -> Result<Items<Saved>, AllocError>
-    ensures { IfOk result (λ os. os ≡ map tidy_saved saved.now) }
+    ensures tidy { IfOk result (λ os. os ≡ map tidy_saved saved.now) }
+    ensures characters { OnOk result (AllByRecursion AreOutputTexts saved.now) }
 {
     let mut out = Items::new(alloc);
     for output in saved {
@@ -51,7 +58,8 @@ pub(crate) fn is_markdown(kind: Kind) -> bool
 
 /// The saved outputs of a cell of the kind, tidy: only code has them.
 fn tidy_outputs(alloc: Global, kind: Kind, saved: &[Saved]) -> Result<Items<Saved>, AllocError>
-    ensures { IfOk result (λ os. os ≡ tidy_outputs kind saved.now) }
+    ensures tidy { IfOk result (λ os. os ≡ tidy_outputs kind saved.now) }
+    ensures characters { OnOk result (AllByRecursion AreOutputTexts (told_saved kind saved.now)) }
 {
     if is_markdown(kind) {
         Ok(Items::new(alloc))
@@ -62,7 +70,8 @@ fn tidy_outputs(alloc: Global, kind: Kind, saved: &[Saved]) -> Result<Items<Save
 
 /// Markdown text, tidy.
 fn tidy_text(alloc: Global, source: &Text) -> Result<Text, AllocError>
-    ensures { IfOk result (λ t. t ≡ changed tidy_markdown source.now) }
+    ensures tidy { IfOk result (λ t. t ≡ changed tidy_markdown source.now) }
+    ensures characters { AreScalars source.now }
 {
     let text = tidy_markdown(alloc, source.as_str())?;
     Text::of(alloc, text.as_str())
@@ -70,7 +79,8 @@ fn tidy_text(alloc: Global, source: &Text) -> Result<Text, AllocError>
 
 /// The source of a cell of the kind, tidy.
 fn tidy_source(alloc: Global, kind: Kind, source: &Text) -> Result<Text, AllocError>
-    ensures { IfOk result (λ t. t ≡ tidy_source kind source.now) }
+    ensures tidy { IfOk result (λ t. t ≡ tidy_source kind source.now) }
+    ensures characters { AreScalars source.now }
 {
     if is_markdown(kind) {
         tidy_text(alloc, source)
@@ -81,7 +91,8 @@ fn tidy_source(alloc: Global, kind: Kind, source: &Text) -> Result<Text, AllocEr
 
 /// The cell, tidy, with the number.
 pub(crate) fn tidy_cell(alloc: Global, id: CellId, cell: &Cell) -> Result<Cell, AllocError>
-    ensures { IfOk result (λ c. c ≡ record (tidy_cell cell.now) { id = id }) }
+    ensures tidy { IfOk result (λ c. c ≡ record (tidy_cell cell.now) { id = id }) }
+    ensures characters { OnOk result (AreCellTexts (told_cell cell.now)) }
 {
     Ok(Cell {
         id,
@@ -107,7 +118,8 @@ fn push_staying(
     cell: &Cell,
 ) -> Result<CellId, AllocError>
     requires { id < 2 ^ 63 }
-    ensures { IfOk result (PutsCell out.old id cell.now out.new) }
+    ensures puts { IfOk result (PutsCell out.old id cell.now out.new) }
+    ensures characters { OnOk result (AreCellTexts (told_cell cell.now)) }
 {
     let tidy = tidy_cell(alloc, id, cell)?;
     if stays(&tidy) {
@@ -124,7 +136,8 @@ pub(crate) fn tidy_cells(
     cells: &[Cell],
 ) -> Result<Items<Cell>, AllocError>
     requires { first + length cells.now < 2 ^ 63 }
-    ensures { IfOk result (λ cs. cs ≡ numbered first (tidy_cells cells.now)) }
+    ensures tidy { IfOk result (λ cs. cs ≡ numbered first (tidy_cells cells.now)) }
+    ensures characters { OnOk result (AllByRecursion AreCellTexts (map told_cell cells.now)) }
 {
     let mut out = Items::new(alloc);
     let mut next = first;

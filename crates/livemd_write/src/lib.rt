@@ -1,7 +1,8 @@
 //! Writing Live Markdown, Livebook's format of notebooks, by this project's rules.
 //!
 //! What the layer above may rely on: [`tidy`] gives the tidy form of a notebook, what of it a book
-//! can tell, and [`write`] the text of that (`Tidy` and `Write` of `livemd_format`).
+//! can tell, [`text`] the text of that, and [`write`] its bytes (`Tidy` and `Write` of
+//! `livemd_format`).
 #![tactic(auto)]
 
 mod cells;
@@ -11,7 +12,7 @@ mod texts;
 mod tidy_up;
 mod writer;
 
-pub use writer::{tidy, write};
+pub use writer::{text, tidy, write};
 
 #[cfg(test)]
 mod tests;

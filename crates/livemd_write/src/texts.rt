@@ -2,6 +2,7 @@
 ghost use Rattle.std.specs.Prelude.{◌≡◌, ◌==◌, ◌++◌, ◌∷◌, [], ◌<◌, ℕ, None, map, replicate, IfOk, OnOk};
 ghost use Rattle.std.specs.List.{flat_map, slice_split};
 ghost use Rattle.std.specs.String.{string_bytes};
+ghost use Rattle.utf16_text.specs.Units.{AreScalars};
 ghost use Rattle.livemd_lines.specs.Lines.{drop_end, drop_front, is_blank, is_cr, is_space, joined, lines};
 ghost use Rattle.livemd_lines.specs.Kinds.{byte_of, open_after};
 ghost use Rattle.livemd_lines.specs.Views.{kind_view, lines_view};
@@ -210,7 +211,8 @@ pub(crate) fn tidy_markdown(alloc: Global, text: &str) -> Result<String, AllocEr
 
 /// The tidy form of a name.
 pub(crate) fn tidy_name(alloc: Global, text: &Text) -> Result<Text, AllocError>
-    ensures { IfOk result (λ t. t ≡ changed tidy_name text.now) }
+    ensures tidy { IfOk result (λ t. t ≡ changed tidy_name text.now) }
+    ensures characters { AreScalars text.now }
 {
     let text = clean(alloc, text.as_str())?;
     let text = spaced(alloc, text.as_str(), '\n')?;
@@ -220,7 +222,8 @@ pub(crate) fn tidy_name(alloc: Global, text: &Text) -> Result<Text, AllocError>
 
 /// A text without the carriage returns that stand before a line feed or at its end.
 pub(crate) fn clean_text(alloc: Global, text: &Text) -> Result<Text, AllocError>
-    ensures { IfOk result (λ t. t ≡ changed clean text.now) }
+    ensures tidy { IfOk result (λ t. t ≡ changed clean text.now) }
+    ensures characters { AreScalars text.now }
 {
     let text = clean(alloc, text.as_str())?;
     Text::of(alloc, text.as_str())

@@ -1,8 +1,10 @@
 //! The tidy form of sections and of the whole notebook.
-ghost use Rattle.std.specs.Prelude.{◌≡◌, ◌+◌, ◌<◌, ◌≤◌, ◌^◌, length, option_map, IfOk};
-ghost use Rattle.std.specs.List.{flat_map};
+ghost use Rattle.std.specs.Prelude.{◌≡◌, ◌+◌, ◌<◌, ◌≤◌, ◌^◌, length, map, option_map, IfOk, OnOk};
+ghost use Rattle.std.specs.List.{AllByRecursion, flat_map};
 ghost use Rattle.notebook.specs.Book.{cells_of, section_cells};
+ghost use Rattle.livemd_format.specs.RoundTrip.{AreSectionTexts, AreTexts};
 ghost use Rattle.livemd_format.specs.Tidy.{number_from, tidied, tidy_section, tidy_sections};
+ghost use Rattle.livemd_write.specs.Told.{told, told_section};
 
 use crate::cells::{tidy_cell, tidy_cells, tidy_kept};
 use crate::texts::tidy_name;
@@ -43,7 +45,8 @@ fn tidy_section(
     section: &Section,
 ) -> Result<Section, AllocError>
     requires { next + length section.now.cells < 2 ^ 63 }
-    ensures { IfOk result (λ s. s ≡ tidy_section all.now number next section.now) }
+    ensures tidy { IfOk result (λ s. s ≡ tidy_section all.now number next section.now) }
+    ensures characters { OnOk result (AreSectionTexts (told_section section.now)) }
 {
     Ok(Section {
         id: number,
@@ -58,7 +61,8 @@ fn tidy_section(
 fn tidy_sections(alloc: Global, all: &[Section]) -> Result<Items<Section>, AllocError>
     requires sections { length all.now ≤ 1000 }
     requires cells { length (flat_map cells_of all.now) ≤ 4000 }
-    ensures { IfOk result (λ ss. ss ≡ tidy_sections all.now 1 1 all.now) }
+    ensures tidy { IfOk result (λ ss. ss ≡ tidy_sections all.now 1 1 all.now) }
+    ensures characters { OnOk result (AllByRecursion AreSectionTexts (map told_section all.now)) }
 {
     let mut out = Items::new(alloc);
     let mut number: u64 = 1;
@@ -89,7 +93,8 @@ pub(crate) fn tidied(alloc: Global, book: &Parts) -> Result<Parts, AllocError>
     requires sections { length book.now.sections ≤ 1000 }
     requires cells { length (section_cells book.now) ≤ 4000 }
     requires number { book.now.setup.id ≡ 0 }
-    ensures { IfOk result (λ n. n ≡ tidied book.now) }
+    ensures tidy { IfOk result (λ n. n ≡ tidied book.now) }
+    ensures characters { OnOk result (AreTexts (told book.now)) }
 {
     let sections = tidy_sections(alloc, book.sections.as_slice())?;
     let next_cell = cell_count(sections.as_slice()) + 1;

@@ -1,5 +1,7 @@
 //! The tidy form of a notebook, and its text.
-ghost use Rattle.std.specs.Prelude.{◌≡◌, ◌<◌, length, drop, IfOk};
+ghost use Rattle.std.specs.Prelude.{◌≡◌, ℕ, List, [], ◌∷◌, IfOk, string_bytes};
+ghost use Rattle.livemd_format.specs.Reads.{Reads};
+ghost use Rattle.livemd_format.specs.RoundTrip.{IsPlain};
 ghost use Rattle.livemd_format.specs.Tidy.{tidied};
 ghost use Rattle.livemd_format.specs.Write.{text_of};
 
@@ -17,23 +19,34 @@ pub fn tidy(alloc: Global, book: &Notebook) -> Result<Notebook, AllocError>
     Ok(Notebook::of(parts))
 }
 
-/// The text without its first byte, which is there.
-fn behind_first(alloc: Global, text: &str) -> Result<Vec<u8>, AllocError>
-    requires { 0 < length text.now }
-    ensures { IfOk result (λ v. v.items ≡ drop 1 text.now) }
+/// What stands behind the line feed with which a text begins; all of it where it begins otherwise.
+fn behind_feed(text: &str) -> &str
+    ensures { (rest : List ℕ) → text.now ≡ 10 ∷ rest → result.now ≡ rest }
 {
-    let mut bytes = Vec::new(alloc);
-    bytes.extend_from_slice(&text.as_bytes()[1..])?;
-    Ok(bytes)
+    match text.strip_prefix('\n') {
+        Some(rest) => rest,
+        None => text,
+    }
 }
 
-/// The text of a notebook's tidy form, as a book.
-pub fn write(alloc: Global, book: &Notebook) -> Result<Vec<u8>, AllocError>
-    ensures { IfOk result (λ v. v.items ≡ text_of (tidied book.now)) }
+/// The text of a notebook's tidy form, as a book. Where each kept line and each info is one that a
+/// book can tell, a reader finds the tidy form in it, and nothing to note.
+pub fn text(alloc: Global, book: &Notebook) -> Result<String, AllocError>
+    ensures text { IfOk result (λ t. string_bytes t ≡ text_of (tidied book.now)) }
+    ensures reads_back { IfOk result (λ t. IsPlain book.now → Reads (string_bytes t) (tidied book.now) []) }
 {
     let parts = tidied(alloc, book.parts())?;
     let mut out = String::new(alloc);
     push_notebook(alloc, &mut out, &parts)?;
-    let bytes = behind_first(alloc, out.as_str())?;
-    Ok(bytes)
+    let text = String::from_str(alloc, behind_feed(out.as_str()))?;
+    Ok(text)
+}
+
+/// The bytes of [`text`].
+pub fn write(alloc: Global, book: &Notebook) -> Result<Vec<u8>, AllocError>
+    ensures text { IfOk result (λ v. v.items ≡ text_of (tidied book.now)) }
+    ensures reads_back { IfOk result (λ v. IsPlain book.now → Reads v.items (tidied book.now) []) }
+{
+    let text = text(alloc, book)?;
+    Ok(text.into_bytes())
 }

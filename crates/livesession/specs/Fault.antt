@@ -14,7 +14,6 @@ use Rattle.script.specs.declared.error.LineFault.TheVariants.{NotUtf8, Unbuilt}
 abbrev pub book_words : BookError → List ℕ
 book_words book.TooLarge = codes "TooLarge"
 book_words (book.NotUtf8 at) = codes "NotUtf8 " ++ decimal at
-book_words (book.Unbuilt line) = codes "Unbuilt " ++ decimal line
 book_words book.TooManySections = codes "TooManySections"
 book_words book.TooManyCells = codes "TooManyCells"
 book_words book.OutOfMemory = codes "OutOfMemory"

@@ -43,7 +43,6 @@ impl fmt::Display for BookWords {
         match self.error {
             BookError::TooLarge => f.write_str("TooLarge"),
             BookError::NotUtf8 { at } => write!(f, "NotUtf8 {at}"),
-            BookError::Unbuilt { line } => write!(f, "Unbuilt {line}"),
             BookError::TooManySections => f.write_str("TooManySections"),
             BookError::TooManyCells => f.write_str("TooManyCells"),
             BookError::OutOfMemory => f.write_str("OutOfMemory"),

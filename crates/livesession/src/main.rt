@@ -1,4 +1,5 @@
-//! The program over real files and the standard output: `livesession play BOOK SCRIPT`.
+//! The program over real files and the standard output: `livesession play BOOK SCRIPT` and
+//! `livesession format BOOK`.
 //!
 //! It makes the real shelf, sink and gate, calls `driver::program`, tells a fault in one line on
 //! standard error and ends with the status. Everything else is `driver`'s.

@@ -1,7 +1,7 @@
 -- What the lines of a script post may be posted as it is.
 use Rattle.std.proofs.Common.{ℕ, List, [], ◌∷◌, ◌++◌, Option, Some, None}
 use Rattle.script.specs.declared.line.ScriptLine.{ScriptLine}
-use Rattle.script.specs.declared.line.ScriptLine.TheVariants.{Join, Leave, Edit, Post, PostReport, Send, Recv, Sync, Show, Pending, Settle, Cells, RawJoin, Raw}
+use Rattle.script.specs.declared.line.ScriptLine.TheVariants.{Join, Leave, Edit, Post, PostReport, Send, Recv, Sync, Show, Pending, Settle, Cells, Book, RawJoin, Raw}
 use Rattle.script.specs.declared.content.Content.{Content}
 use Rattle.script.specs.Line.{client_of, IsEnd}
 use Rattle.script.specs.Next.{IsNextRest, IsNext}
@@ -20,6 +20,7 @@ end-postable text (Show client) is = tt
 end-postable text (Pending client cell) is = tt
 end-postable text (Settle) is = tt
 end-postable text (Cells) is = tt
+end-postable text (Book) is = tt
 end-postable text (RawJoin client) is = tt
 end-postable text (Raw client op) is = tt
 

@@ -8,7 +8,7 @@ use Rattle.std.proofs.lemmas.Option.{slice_get_within}
 use Rattle.std.proofs.lemmas.List.{map-append}
 use Rattle.std.proofs.lemmas.List.Elements.{filter-append}
 use Rattle.script.specs.declared.line.ScriptLine.{ScriptLine}
-use Rattle.script.specs.declared.line.ScriptLine.TheVariants.{Join, Leave, Edit, Post, PostReport, Send, Recv, Sync, Show, Pending, Settle, Cells, RawJoin, Raw}
+use Rattle.script.specs.declared.line.ScriptLine.TheVariants.{Join, Leave, Edit, Post, PostReport, Send, Recv, Sync, Show, Pending, Settle, Cells, Book, RawJoin, Raw}
 use Rattle.script.specs.declared.content.Content.{Content}
 use Rattle.script.specs.declared.error.Refusal.{Refusal}
 use Rattle.script.specs.declared.error.Refusal.TheVariants.{Fault, OutOfMemory}
@@ -118,7 +118,7 @@ IsScript-next before line old new is utf8 kept next =
 
 -- whether lines that begin with the word have a client
 abbrev has_client : List ℕ → Bool
-has_client word = not (bytes_eq word (codes "sync") || bytes_eq word (codes "settle") || bytes_eq word (codes "cells"))
+has_client word = not (bytes_eq word (codes "sync") || bytes_eq word (codes "settle") || bytes_eq word (codes "cells") || bytes_eq word (codes "book"))
 
 client-by-word : (line : ScriptLine) → is_some (client_of line) ≡ has_client (word_of line)
 client-by-word (Join client) = refl
@@ -133,6 +133,7 @@ client-by-word (Show client) = refl
 client-by-word (Pending client cell) = refl
 client-by-word (Settle) = refl
 client-by-word (Cells) = refl
+client-by-word (Book) = refl
 client-by-word (RawJoin client) = refl
 client-by-word (Raw client op) = refl
 

@@ -5,7 +5,7 @@ use Rattle.std.specs.Str.{bytes_eq}
 use Rattle.std.specs.Str.Parse.{digits_value, IsNumeral}
 use Rattle.std.proofs.lemmas.Slice.Eq.{bytes_eq-Decides}
 use Rattle.script.specs.declared.line.ScriptLine.{ScriptLine}
-use Rattle.script.specs.declared.line.ScriptLine.TheVariants.{Join, Leave, Edit, Post, PostReport, Send, Recv, Sync, Show, Pending, Settle, Cells, RawJoin, Raw}
+use Rattle.script.specs.declared.line.ScriptLine.TheVariants.{Join, Leave, Edit, Post, PostReport, Send, Recv, Sync, Show, Pending, Settle, Cells, Book, RawJoin, Raw}
 use Rattle.session_ops.specs.declared.entry.Op.{Op}
 use Rattle.script.specs.declared.line.Count.{Count}
 use Rattle.script.specs.declared.line.Count.TheVariants.{AtMost, All}
@@ -38,7 +38,8 @@ line_in word client end =
     else if bytes_eq word (codes "settle") then Settle
     else if bytes_eq word (codes "rawjoin") then RawJoin client
     else if bytes_eq word (codes "raw") then Raw client (op_in (first_word end) (after_word end))
-    else Cells
+    else if bytes_eq word (codes "cells") then Cells
+    else Book
 
 all-no-number : (text : List ℕ) (number : ℕ) → text ≡ codes "all" → IsNumber text number → ⊥
 all-no-number text number all is =
@@ -79,6 +80,7 @@ line-is (Show client) end is = refl
 line-is (Pending client cell) end is = ap (λ n. Pending client n) is.value
 line-is (Settle) end is = refl
 line-is (Cells) end is = refl
+line-is (Book) end is = refl
 line-is (RawJoin client) end is = refl
 line-is (Raw client op) end is = ap (λ o. Raw client o) (op-is (first_word end) (after_word end) op is)
 

@@ -1,7 +1,7 @@
 -- The forms of a script's lines.
 use Rattle.std.specs.Prelude.{◌≡◌, ℕ, List, [], codes, slice_get, Option, Some, None}
 use Rattle.script.specs.declared.line.ScriptLine.{ScriptLine}
-use Rattle.script.specs.declared.line.ScriptLine.TheVariants.{Join, Leave, Edit, Post, PostReport, Send, Recv, Sync, Show, Pending, Settle, Cells, RawJoin, Raw}
+use Rattle.script.specs.declared.line.ScriptLine.TheVariants.{Join, Leave, Edit, Post, PostReport, Send, Recv, Sync, Show, Pending, Settle, Cells, Book, RawJoin, Raw}
 use Rattle.script.specs.declared.line.Count.{Count}
 use Rattle.script.specs.declared.line.Count.TheVariants.{AtMost, All}
 use Rattle.script.specs.Words.{first_word, after_word}
@@ -23,6 +23,7 @@ word_of (Show client) = codes "show"
 word_of (Pending client cell) = codes "pending"
 word_of (Settle) = codes "settle"
 word_of (Cells) = codes "cells"
+word_of (Book) = codes "book"
 word_of (RawJoin client) = codes "rawjoin"
 word_of (Raw client op) = codes "raw"
 
@@ -40,6 +41,7 @@ client_of (Show client) = Some client
 client_of (Pending client cell) = Some client
 client_of (Settle) = None
 client_of (Cells) = None
+client_of (Book) = None
 client_of (RawJoin client) = Some client
 client_of (Raw client op) = Some client
 
@@ -62,6 +64,7 @@ IsEnd text (Show client) = text ≡ []
 IsEnd text (Pending client cell) = IsNumber text cell
 IsEnd text (Settle) = text ≡ []
 IsEnd text (Cells) = text ≡ []
+IsEnd text (Book) = text ≡ []
 IsEnd text (RawJoin client) = text ≡ []
 IsEnd text (Raw client op) = IsRawOp text op
 
@@ -75,7 +78,7 @@ IsRest names text None line = IsEnd text line
 IsRest names text (Some client) line = IsNamed names client (first_word text) × IsEnd (after_word text) line
 
 -- the text is this line: `join NAME`, `leave NAME`, `edit NAME CELL DELTA`, `post NAME OP`, `post NAME report CELL`,
--- `send NAME COUNT`, `recv NAME COUNT`, `sync`, `show NAME`, `pending NAME CELL`, `settle`, `cells`, `rawjoin NAME` or
--- `raw NAME RAWOP`
+-- `send NAME COUNT`, `recv NAME COUNT`, `sync`, `show NAME`, `pending NAME CELL`, `settle`, `cells`, `book`,
+-- `rawjoin NAME` or `raw NAME RAWOP`
 abbrev pub IsLine : List (List ℕ) → List ℕ → ScriptLine → Type 0
 IsLine names text line = (first_word text ≡ word_of line) × IsRest names (after_word text) (client_of line) line

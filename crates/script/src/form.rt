@@ -50,6 +50,9 @@ fn plain_line(word: &str, rest: &str) -> Option<ScriptLine>
     if word == "cells" {
         return Some(ScriptLine::Cells);
     }
+    if word == "book" {
+        return Some(ScriptLine::Book);
+    }
     None
 }
 

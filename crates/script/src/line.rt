@@ -60,6 +60,8 @@ pub enum ScriptLine {
     Settle,
     /// `cells`: prints the states of the setup and code cells.
     Cells,
+    /// `book`: prints the server's notebook as a book.
+    Book,
     /// `rawjoin NAME`: the name's number joins the session without a client.
     RawJoin {
         client: u32,
@@ -72,7 +74,7 @@ pub enum ScriptLine {
 }
 
 impl ScriptLine {
-    /// The client whose name the line has: none for `sync`, `settle` and `cells`.
+    /// The client whose name the line has: none for `sync`, `settle`, `cells` and `book`.
     pub fn client(&self) -> Option<u32>
         ensures { result ≡ client_of self.now }
     {
@@ -88,7 +90,7 @@ impl ScriptLine {
             | ScriptLine::Pending { client, .. }
             | ScriptLine::RawJoin { client }
             | ScriptLine::Raw { client, .. } => Some(*client),
-            ScriptLine::Sync | ScriptLine::Settle | ScriptLine::Cells => None,
+            ScriptLine::Sync | ScriptLine::Settle | ScriptLine::Cells | ScriptLine::Book => None,
         }
     }
 }

@@ -33,8 +33,8 @@ fn lines_are_read_or_refused(rt: HostRuntime) -> Result<(), Fail> {
         (b"join a234567890_b2345\nsync\nsync\n".as_slice(), Ok(3)),
         (b"sync\nshow ann\njoin ann\njoin ann\n".as_slice(), Ok(4)),
         (
-            b"join ann\njoin bob\nsend bob 1\nsettle\ncells".as_slice(),
-            Ok(5),
+            b"join ann\njoin bob\nsend bob 1\nsettle\ncells\nbook".as_slice(),
+            Ok(6),
         ),
         (
             b"join ann\n#\xff\nfly\n".as_slice(),
@@ -58,7 +58,7 @@ fn lines_are_read_or_refused(rt: HostRuntime) -> Result<(), Fail> {
         (b"raw join ann\n".as_slice(), bad(1)),
         (b"quiet\n".as_slice(), bad(1)),
         (b"poke ann 1 2\n".as_slice(), bad(1)),
-        (b"book\n".as_slice(), bad(1)),
+        (b"book ann\n".as_slice(), bad(1)),
         (b"start main\n".as_slice(), bad(1)),
         (b"finish\n".as_slice(), bad(1)),
         (b"join ann\n\n#x\nshow Ann\n".as_slice(), bad(4)),

@@ -67,10 +67,20 @@ gone-later s later k c h there none =
     let le : s.book.next_cell ≤ (state_from s later).book.next_cell = (from-grown s later h).1 in
     record { none = none; below = omega (arith, lt, le) }
 
-lost-more : (s : State) (later : List Entry) (n k : ℕ) (ops : List Op) (c : Cell) (e : Entry) → IsNotebook s.book → found k (cells s.book) ≡ Some c → IsOthers (state_from s later) n k e → IsLost s later n k ops → IsLost s (later ++ e ∷ []) n k ops
-lost-more s later n k ops c e h there f l =
+lost-more : (s : State) (later : List Entry) (n k : ℕ) (ops : List Op) (i : List Step) (c : Cell) (e : Entry) → IsNotebook s.book → found k (cells s.book) ≡ Some c → IsOthers (state_from s later) n k e → IsLost s later n k ops i → IsLost s (later ++ e ∷ []) n k ops i
+lost-more s later n k ops i c e h there f l =
     record {
+      base = l.base;
+      delta = l.delta;
       gone = l.gone;
+      posted = l.posted;
+      before = l.before;
+      own = l.own;
+      rest = l.rest ++ e ∷ [];
+      parts = ap (λ x. x ++ e ∷ []) l.parts ∙ append_assoc l.before (l.own ∷ l.rest) (e ∷ []);
+      call = l.call;
+      answer = l.answer;
+      late = l.late;
       deleted = ap (λ t. found k (cells t.book)) (from-more s later (e ∷ [])) ∙ (f.gone (gone-later s later k c h there l.deleted)).none;
       none = own-append n k later e l.none f.other;
     }
@@ -79,7 +89,7 @@ live-more : (s : State) (later : List Entry) (n k : ℕ) (ops : List Op) (c : Ce
 live-more s later n k ops c None e h there f q = record { gone = q.gone; known = later-known s later n k (revision s k) e f q.known; none = own-append n k later e q.none f.other }
 live-more s later n k ops c (Some p) e h there f (fits, inl w) = (fits, inl (waiting-more s later n k ops p.flight e f w))
 live-more s later n k ops c (Some p) e h there f (fits, inr (inl r)) = (fits, inr (inl (returning-more s later n k ops p.flight e f r)))
-live-more s later n k ops c (Some p) e h there f (fits, inr (inr l)) = (fits, inr (inr (lost-more s later n k ops c e h there f l)))
+live-more s later n k ops c (Some p) e h there f (fits, inr (inr l)) = (fits, inr (inr (lost-more s later n k ops p.flight c e h there f l)))
 
 untouched-more : (s : State) (later : List Entry) (n k : ℕ) (ops : List Op) (e : Entry) → IsOthers (state_from s later) n k e → IsUntouched s later n k ops → IsUntouched s (later ++ e ∷ []) n k ops
 untouched-more s later n k ops e f u = record { gone = u.gone; known = ap (λ t. floor n k t.known) (from-more s later (e ∷ [])) ∙ (f.same ∙ u.known); none = own-append n k later e u.none f.other }
@@ -98,7 +108,10 @@ live-ops s later n k ops ops' (Some p) same (fits, inr (inl r)) = (
   fits,
   inr (inl (record { base = r.base; delta = r.delta; gone = subst (AreReports (revision s k)) (sym same) r.gone; posted = r.posted; before = r.before; own = r.own; rest = r.rest; parts = r.parts; call = r.call; rev = r.rev; answer = r.answer; none_before = r.none_before; none_after = r.none_after; known = r.known })),
 )
-live-ops s later n k ops ops' (Some p) same (fits, inr (inr l)) = (fits, inr (inr (record { gone = subst (AreReports (revision s k)) (sym same) l.gone; deleted = l.deleted; none = l.none })))
+live-ops s later n k ops ops' (Some p) same (fits, inr (inr l)) = (
+  fits,
+  inr (inr (record { base = l.base; delta = l.delta; gone = subst (AreReports (revision s k)) (sym same) l.gone; posted = l.posted; before = l.before; own = l.own; rest = l.rest; parts = l.parts; call = l.call; answer = l.answer; late = l.late; deleted = l.deleted; none = l.none })),
+)
 
 pub kept-ops : (s : State) (later : List Entry) (n k : ℕ) (ops ops' : List Op) (own : Option Cell) (o : Option Pending) → messages_for k ops' ≡ messages_for k ops → IsKept s later n k ops own o → IsKept s later n k ops' own o
 kept-ops s later n k ops ops' None o same d = record { nothing = d.nothing; untouched = λ le. record { gone = same ∙ (d.untouched le).gone; known = (d.untouched le).known; none = (d.untouched le).none } }
@@ -177,8 +190,28 @@ waiting-next : (s : State) (e : Entry) (es : List Entry) (n k : ℕ) (ops : List
 waiting-next s e es n k ops i w =
     record { base = w.base; delta = w.delta; before = w.before; after = w.after; only = w.only; reports_before = w.reports_before; reports_after = reports-next s e k w.after w.reports_after; posted = posted-next s e k w.base w.delta i w.posted; known = w.known; none = w.none.1 }
 
-lost-next : (s : State) (e : Entry) (es : List Entry) (n k : ℕ) (ops : List Op) → IsLost s (e ∷ es) n k ops → IsLost (after s e) es n k ops
-lost-next s e es n k ops l = record { gone = reports-next s e k (messages_for k ops) l.gone; deleted = l.deleted; none = l.none.1 }
+-- where the cell still lives, the refused message is not the entry that was received
+lost-next : (s : State) (e : Entry) (es : List Entry) (n k : ℕ) (ops : List Op) (i : List Step) (t : List ℕ) → HasSource s.book k t → (l : IsLost s (e ∷ es) n k ops i) → (before : List Entry) → l.before ≡ before → e ∷ es ≡ before ++ l.own ∷ l.rest → IsLost (after s e) es n k ops (over i (applied_by k e.call e.reply))
+lost-next s e es n k ops i t there l [] is parts =
+    let wrong : Some there.own ≡ None = sym there.there ∙ (ap (λ xs. found k (cells (state_from s xs).book)) (sym is) ∙ l.late) in
+    absurd (cc wrong)
+lost-next s e es n k ops i t there l (b ∷ bs) is parts =
+    let both : (e ≡ b) × (es ≡ bs ++ l.own ∷ l.rest) = first-of e b es (bs ++ l.own ∷ l.rest) parts in
+    record {
+      base = l.base;
+      delta = l.delta;
+      gone = reports-next s e k (messages_for k ops) l.gone;
+      posted = posted-next s e k l.base l.delta i l.posted;
+      before = bs;
+      own = l.own;
+      rest = l.rest;
+      parts = both.1;
+      call = l.call;
+      answer = l.answer;
+      late = ap (λ x. found k (cells (state_from (after s x) bs).book)) both.0 ∙ (ap (λ xs. found k (cells (state_from s xs).book)) (sym is) ∙ l.late);
+      deleted = l.deleted;
+      none = l.none.1;
+    }
 
 quiet-next : (s : State) (e : Entry) (es : List Entry) (n k : ℕ) (ops : List Op) → IsQuiet s (e ∷ es) n k ops → IsQuiet (after s e) es n k ops
 quiet-next s e es n k ops q =
@@ -187,19 +220,19 @@ quiet-next s e es n k ops q =
 
 -- where the message of what is in flight is, after one more entry was received
 abbrev pub IsOnItsWay : State → List Entry → ℕ → ℕ → List Op → List Step → Type 0
-IsOnItsWay s later n k ops i = IsWaiting s later n k ops i ⊎ (IsReturning s later n k ops i ⊎ IsLost s later n k ops)
+IsOnItsWay s later n k ops i = IsWaiting s later n k ops i ⊎ (IsReturning s later n k ops i ⊎ IsLost s later n k ops i)
 
-way-next : (s : State) (e : Entry) (es : List Entry) (n k : ℕ) (ops : List Op) (i j : List Step) → is_own n k e ≡ false → over i (applied_by k e.call e.reply) ≡ j → IsOnItsWay s (e ∷ es) n k ops i → IsOnItsWay (after s e) es n k ops j
-way-next s e es n k ops i j other is (inl w) = inl (subst (IsWaiting (after s e) es n k ops) is (waiting-next s e es n k ops i w))
-way-next s e es n k ops i j other is (inr (inl r)) = inr (inl (subst (IsReturning (after s e) es n k ops) is (returning-next s e es n k ops i other r)))
-way-next s e es n k ops i j other is (inr (inr l)) = inr (inr (lost-next s e es n k ops l))
+way-next : (s : State) (e : Entry) (es : List Entry) (n k : ℕ) (ops : List Op) (i j : List Step) (t : List ℕ) → HasSource s.book k t → is_own n k e ≡ false → over i (applied_by k e.call e.reply) ≡ j → IsOnItsWay s (e ∷ es) n k ops i → IsOnItsWay (after s e) es n k ops j
+way-next s e es n k ops i j t there other is (inl w) = inl (subst (IsWaiting (after s e) es n k ops) is (waiting-next s e es n k ops i w))
+way-next s e es n k ops i j t there other is (inr (inl r)) = inr (inl (subst (IsReturning (after s e) es n k ops) is (returning-next s e es n k ops i other r)))
+way-next s e es n k ops i j t there other is (inr (inr l)) = inr (inr (subst (IsLost (after s e) es n k ops) is (lost-next s e es n k ops i t there l l.before refl l.parts)))
 
 -- an entry that did nothing to the cell was received
 live-passed : (s : State) (e : Entry) (es : List Entry) (n k : ℕ) (ops : List Op) (o : Option Pending) → is_own n k e ≡ false → applied_by k e.call e.reply ≡ [] → found k (cells (after s e).book) ≡ found k (cells s.book) → IsKeptLive s (e ∷ es) n k ops o → IsKeptLive (after s e) es n k ops o
 live-passed s e es n k ops None other none is q = quiet-next s e es n k ops q
 live-passed s e es n k ops (Some p) other none is (fits, way) = (
   record { source = fits.source; there = record { own = fits.there.own; there = is ∙ fits.there.there; source = fits.there.source }; flight = fits.flight; buffer = fits.buffer },
-  way-next s e es n k ops p.flight p.flight other (ap (over p.flight) none) way,
+  way-next s e es n k ops p.flight p.flight fits.source fits.there other (ap (over p.flight) none) way,
 )
 
 untouched-next : (s : State) (e : Entry) (es : List Entry) (n k : ℕ) (ops : List Op) → IsUntouched s (e ∷ es) n k ops → IsUntouched (after s e) es n k ops
@@ -269,7 +302,7 @@ pub live-moved : (s : State) (e : Entry) (es : List Entry) (n k : ℕ) (ops : Li
 live-moved s e es n k ops x None other one fx more q = quiet-next s e es n k ops q
 live-moved s e es n k ops x (Some p) other one fx more (fits, way) = (
   fits-shifted s e k x p fits.source (more fits.source fits.there) (fx fits.source fits.there) fits.flight fits.buffer,
-  way-next s e es n k ops p.flight (transformed false x p.flight) other (ap (over p.flight) one) way,
+  way-next s e es n k ops p.flight (transformed false x p.flight) fits.source fits.there other (ap (over p.flight) one) way,
 )
 
 -- the client's own delta of the cell was received: it is what was in flight

@@ -114,7 +114,12 @@ live-reported s later n k rev ops ops' (Some p) is le (fits, inr (inl r)) = (
       inl (record { base = r.base; delta = r.delta; gone = subst (AreReports (revision s k)) (sym is) (report-added (revision s k) rev (messages_for k ops) le r.gone); posted = r.posted; before = r.before; own = r.own; rest = r.rest; parts = r.parts; call = r.call; rev = r.rev; answer = r.answer; none_before = r.none_before; none_after = r.none_after; known = r.known })
       ),
 )
-live-reported s later n k rev ops ops' (Some p) is le (fits, inr (inr l)) = (fits, inr (inr (record { gone = subst (AreReports (revision s k)) (sym is) (report-added (revision s k) rev (messages_for k ops) le l.gone); deleted = l.deleted; none = l.none })))
+live-reported s later n k rev ops ops' (Some p) is le (fits, inr (inr l)) = (
+  fits,
+  inr (
+      inr (record { base = l.base; delta = l.delta; gone = subst (AreReports (revision s k)) (sym is) (report-added (revision s k) rev (messages_for k ops) le l.gone); posted = l.posted; before = l.before; own = l.own; rest = l.rest; parts = l.parts; call = l.call; answer = l.answer; late = l.late; deleted = l.deleted; none = l.none })
+      ),
+)
 
 pub kept-reported : (s : State) (later : List Entry) (n j rev k : ℕ) (ops : List Op) (c : Cell) (o : ℕ → Option Pending) → found j (cells s.book) ≡ Some c → rev ≤ revision s j → ((i : ℕ) → IsKept s later n i ops (found i (cells s.book)) (o i)) → IsKept s later n k (ops ++ Report j rev ∷ []) (found k (cells s.book)) (o k)
 kept-reported s later n j rev k ops c o there le kept =

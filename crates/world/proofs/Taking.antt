@@ -201,8 +201,12 @@ taken-same s later n j base d ops o e rev x front call answer next is =
     )
 
 -- or it was refused, since the cell is gone
-lost-same : (s : State) (later : List Entry) (n j base : ℕ) (d : List Step) (ops : List Op) (o : Option Pending) (e : Entry) → IsFront s later n j base d ops o → is_own n j e ≡ false → found j (cells (state_from s (later ++ e ∷ [])).book) ≡ None → IsKeptLive s (later ++ e ∷ []) n j ops o
-lost-same s later n j base d ops o e front other none = subst (IsKeptLive s (later ++ e ∷ []) n j ops) (sym front.is) (front.fits, inr (inr (record { gone = front.rest; deleted = none; none = own-append n j later e front.none other })))
+lost-same : (s : State) (later : List Entry) (n j base : ℕ) (d : List Step) (ops : List Op) (o : Option Pending) (e : Entry) → IsFront s later n j base d ops o → e.call ≡ ByClient n (Delta j base d) → e.reply ≡ Refused NoCell → found j (cells (state_from s later).book) ≡ None → is_own n j e ≡ false → found j (cells (state_from s (later ++ e ∷ [])).book) ≡ None → IsKeptLive s (later ++ e ∷ []) n j ops o
+lost-same s later n j base d ops o e front call answer late other none =
+    subst (IsKeptLive s (later ++ e ∷ []) n j ops) (sym front.is) (
+      front.fits,
+      inr (inr (record { base = base; delta = d; gone = front.rest; posted = front.posted; before = later; own = e; rest = []; parts = refl; call = call; answer = answer; late = late; deleted = none; none = own-append n j later e front.none other })),
+    )
 
 -- of a dead cell that has messages
 dead-taken : (s : State) (later : List Entry) (n k : ℕ) (ops ops' : List Op) (m : Message) (o : Option Pending) (e : Entry) → messages_for k ops ≡ m ∷ messages_for k ops' → IsKeptDead s later n k ops o → IsKeptDead s (later ++ e ∷ []) n k ops' o
@@ -223,9 +227,9 @@ delta-taken-here : (s : State) (later : List Entry) (n j base : ℕ) (d : List S
 delta-taken-here s later n j base d ops None o e call answer kept = dead-taken s later n j (Delta j base d ∷ ops) ops (Edits base d) o e (edit-first j base d ops) kept
 delta-taken-here s later n j base d ops (Some c) o e call answer kept = taken-same s later n j base d ops o e (revision (state_from s later) j + 1) (over d (drop base (taken_by j (state_from s later).taken))) (front-live s later n j base d ops o kept) call answer refl refl
 
-delta-lost-here : (s : State) (later : List Entry) (n j base : ℕ) (d : List Step) (ops : List Op) (own : Option Cell) (o : Option Pending) (e : Entry) → is_own n j e ≡ false → found j (cells (state_from s (later ++ e ∷ [])).book) ≡ None → IsKept s later n j (Delta j base d ∷ ops) own o → IsKept s (later ++ e ∷ []) n j ops own o
-delta-lost-here s later n j base d ops None o e other none kept = dead-taken s later n j (Delta j base d ∷ ops) ops (Edits base d) o e (edit-first j base d ops) kept
-delta-lost-here s later n j base d ops (Some c) o e other none kept = lost-same s later n j base d ops o e (front-live s later n j base d ops o kept) other none
+delta-lost-here : (s : State) (later : List Entry) (n j base : ℕ) (d : List Step) (ops : List Op) (own : Option Cell) (o : Option Pending) (e : Entry) → e.call ≡ ByClient n (Delta j base d) → e.reply ≡ Refused NoCell → found j (cells (state_from s later).book) ≡ None → is_own n j e ≡ false → found j (cells (state_from s (later ++ e ∷ [])).book) ≡ None → IsKept s later n j (Delta j base d ∷ ops) own o → IsKept s (later ++ e ∷ []) n j ops own o
+delta-lost-here s later n j base d ops None o e call answer late other none kept = dead-taken s later n j (Delta j base d ∷ ops) ops (Edits base d) o e (edit-first j base d ops) kept
+delta-lost-here s later n j base d ops (Some c) o e call answer late other none kept = lost-same s later n j base d ops o e (front-live s later n j base d ops o kept) call answer late other none
 
 -- the client's own delta was taken
 delta-taken : (s : State) (later : List Entry) (n j base k : ℕ) (d : List Step) (ops : List Op) (o : ℕ → Option Pending) (e : Entry) (answer : Reply) → IsNotebook s.book → IsEntry (state_from s later) e (ByClient n (Delta j base d)) answer → IsDeltaAnswer (state_from s later) j base d answer → ((i : ℕ) → IsKept s later n i (Delta j base d ∷ ops) (found i (cells s.book)) (o i)) → IsKept s (later ++ e ∷ []) n k ops (found k (cells s.book)) (o k)
@@ -246,7 +250,7 @@ delta-taken s later n j base k d ops o e answer h is (inr (refused, gone)) kept 
     elim (j == k)
     as (λ b. (j == k) ≡ b → IsKept s (later ++ e ∷ []) n k ops (found k (cells s.book)) (o k)) [
       | true ↦ λ y. subst (λ i. IsKept s (later ++ e ∷ []) n i ops (found i (cells s.book)) (o i)) (eqb-true j k y)
-          (delta-lost-here s later n j base d ops (found j (cells s.book)) (o j) e (others j).other (ap (λ u. found j (cells u.book)) (from-more s later (e ∷ [])) ∙ ((others j).gone gone).none) (kept j))
+          (delta-lost-here s later n j base d ops (found j (cells s.book)) (o j) e is'.call_is is'.reply_is gone.none (others j).other (ap (λ u. found j (cells u.book)) (from-more s later (e ∷ [])) ∙ ((others j).gone gone).none) (kept j))
       | false ↦ λ y. kept-aside s later n k (Delta j base d) ops (o k) e h (edit-beside j k base d y) (others k) (kept k)
     ]
     refl
@@ -306,7 +310,17 @@ told-live s later n j rev ops c (Some p) e h there f (fits, inr (inr l)) = (
   inr (
       inr (
       record {
+        base = l.base;
+        delta = l.delta;
         gone = reports-rest (revision s j) rev _ (messages_for j ops) (report-first j rev ops) l.gone;
+        posted = l.posted;
+        before = l.before;
+        own = l.own;
+        rest = l.rest ++ e ∷ [];
+        parts = ap (λ x. x ++ e ∷ []) l.parts ∙ append_assoc l.before (l.own ∷ l.rest) (e ∷ []);
+        call = l.call;
+        answer = l.answer;
+        late = l.late;
         deleted = ap (λ t. found j (cells t.book)) (from-more s later (e ∷ [])) ∙ (f.gone (gone-later s later j c h there l.deleted)).none;
         none = own-append n j later e l.none f.other;
       }

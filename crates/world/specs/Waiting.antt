@@ -79,8 +79,18 @@ pub record IsReturning (s : State) (later : List Entry) (n k : ℕ) (ops : List 
   pub known : floor n k (state_from s later).known ≤ revision s k + length (applied_in k before) + 1
 
 -- the message was taken after the cell was deleted, and refused; the client has not received the deletion yet
-pub record IsLost (s : State) (later : List Entry) (n k : ℕ) (ops : List Op) : Type 0 where
+pub record IsLost (s : State) (later : List Entry) (n k : ℕ) (ops : List Op) (flight : List Step) : Type 0 where
+  pub base : ℕ
+  pub delta : List Step
   pub gone : AreReports (revision s k) (messages_for k ops)
+  pub posted : IsPosted s k base delta flight
+  pub before : List Entry
+  pub own : Entry
+  pub rest : List Entry
+  pub parts : later ≡ before ++ own ∷ rest
+  pub call : own.call ≡ ByClient n (Delta k base delta)
+  pub answer : own.reply ≡ Refused NoCell
+  pub late : found k (cells (state_from s before).book) ≡ None
   pub deleted : found k (cells (state_from s later).book) ≡ None
   pub none : HasNoOwn n k later
 
@@ -93,7 +103,7 @@ pub record IsQuiet (s : State) (later : List Entry) (n k : ℕ) (ops : List Op) 
 -- of a cell that lives at the client
 abbrev pub IsKeptLive : State → List Entry → ℕ → ℕ → List Op → Option Pending → Type 0
 IsKeptLive s later n k ops None = IsQuiet s later n k ops
-IsKeptLive s later n k ops (Some p) = FitsHere s k p × (IsWaiting s later n k ops p.flight ⊎ (IsReturning s later n k ops p.flight ⊎ IsLost s later n k ops))
+IsKeptLive s later n k ops (Some p) = FitsHere s k p × (IsWaiting s later n k ops p.flight ⊎ (IsReturning s later n k ops p.flight ⊎ IsLost s later n k ops p.flight))
 
 -- of a cell that doesn't live at the client nothing is pending; of one that will have a number not given yet, nothing was ever said
 pub record IsUntouched (s : State) (later : List Entry) (n k : ℕ) (ops : List Op) : Type 0 where

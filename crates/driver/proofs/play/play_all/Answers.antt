@@ -1,18 +1,11 @@
+use Rattle.std.proofs.Common.{map}
+use Rattle.driver.specs.Lines.{notice_line}
 use Rattle.driver.proofs.AnswerLaws.{on-ok}
-use Rattle.driver.proofs.Played.{fresh-session, fresh-played, fresh-cut, fresh-failed}
+use Rattle.driver.proofs.Played.{noticed-all, fresh-history}
 use Rattle.driver.proofs.play.play_all.Goals as goal
 
 pub returns-in-Ok-clause-played : goal.returns-in-Ok-clause-played
-returns-in-Ok-clause-played g c = λ n0 fr.
-    let is = fresh-session n0 c.args.content.now c.args.player.now c.play_lines.new.player _ _ c.as_slice-names.result.now c.as_slice-lines.result.now fr c.as_slice-names.ensures c.as_slice-lines.ensures c.in-Ok.ensures.played in
-    on-ok c.play_end.result
-    (λ ends. fresh-played n0 c.args.content.now c.args.player.now c.play_lines.new.player c.play_end.new.player _ _ _ c.as_slice-names.result.now c.as_slice-lines.result.now fr c.as_slice-names.ensures c.as_slice-lines.ensures c.in-Ok.ensures.played ends)
-    (c.play_end.ensures.played n0 is)
-
-pub returns-in-Ok-clause-failed : goal.returns-in-Ok-clause-failed
-returns-in-Ok-clause-failed g c = λ n0 fr e.
-    let is = fresh-session n0 c.args.content.now c.args.player.now c.play_lines.new.player _ _ c.as_slice-names.result.now c.as_slice-lines.result.now fr c.as_slice-names.ensures c.as_slice-lines.ensures c.in-Ok.ensures.played in
-    fresh-cut n0 c.args.content.now c.args.player.now c.play_lines.new.player c.play_end.new.player _ _ c.as_slice-names.result.now c.as_slice-lines.result.now fr c.as_slice-names.ensures c.as_slice-lines.ensures c.in-Ok.ensures.played (c.play_end.ensures.failed n0 is e)
+returns-in-Ok-clause-played g c = λ n0 fr. on-ok c.play_script.result (noticed-all n0 (map notice_line c.args.notices.now) c.args.content.now c.play_script.new.player _ _ _ c.in-Ok.ensures.written) (c.play_script.ensures.played n0 fr)
 
 pub returns-in-Err-clause-failed : goal.returns-in-Err-clause-failed
-returns-in-Err-clause-failed g c = λ n0 fr e. fresh-failed n0 c.args.content.now c.args.player.now c.play_lines.new.player c.as_slice-names.result.now c.as_slice-lines.result.now fr (λ n s st. c.in-Err.ensures.failed n s st e)
+returns-in-Err-clause-failed g c = λ n0 fr e. fresh-history n0 c.args.player.now fr

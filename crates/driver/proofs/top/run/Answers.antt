@@ -1,4 +1,4 @@
-use Rattle.std.proofs.Common.{sym, subst}
+use Rattle.std.proofs.Common.{inl, sym, subst}
 use Rattle.driver.specs.Answers.{HasReadBook}
 use Rattle.driver.proofs.AnswerLaws.{book-ended, book-read, answer-earlier}
 use Rattle.driver.proofs.top.run.Goals as goal
@@ -13,4 +13,4 @@ returns-in-Ok-clause-answer g c = λ words form.
 
 pub returns-in-Err-clause-answer : goal.returns-in-Err-clause-answer
 returns-in-Err-clause-answer g c = λ words form.
-    rw c.ended.ensures (book-ended words (g.S.Shelf.held c.args.shelf.now) c.args.book.now c.args.script.now (g.S.Shelf.faults c.args.shelf.now) (g.S.Shelf.faults c.read_book.new.shelf) (g.K.Sink.faults c.args.sink.now) (g.K.Sink.faults c.args.sink.now) (g.K.Sink.written c.args.sink.now) c.in-Err.fault form c.in-Err.ensures.answer)
+    rw c.ended.ensures (book-ended words (g.S.Shelf.held c.args.shelf.now) c.args.book.now (g.S.Shelf.faults c.args.shelf.now) (g.S.Shelf.faults c.read_book.new.shelf) (g.K.Sink.faults c.args.sink.now) (g.K.Sink.faults c.args.sink.now) (g.K.Sink.written c.args.sink.now) c.in-Err.fault (inl (c.args.script.now, form)) c.in-Err.ensures.answer)

@@ -1,5 +1,4 @@
-use Rattle.livemd_write.proofs.Blocks.{run_end, run_start, run_turn}
-use Rattle.std.proofs.Common.{arith}
+use Rattle.livemd_write.proofs.Blocks.{run_start, run_turn}
 use Rattle.livemd_write.proofs.fences.longest_run.Goals as goal
 
 pub loop-b-init : goal.loop-b-init

@@ -1,4 +1,3 @@
-use Rattle.std.proofs.Common.{◌++◌}
 use Rattle.std.specs.Prelude.{encode_utf8_all}
 use Rattle.livemd_write.proofs.Blocks.{heading_put}
 use Rattle.livemd_write.proofs.page.push_heading.Goals as goal

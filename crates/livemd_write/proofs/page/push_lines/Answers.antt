@@ -1,6 +1,6 @@
 use Rattle.std.proofs.Common.{ap}
 use Rattle.std.specs.String.{string_bytes}
-use Rattle.livemd_lines.specs.Views.{line_view, lines_view}
+use Rattle.livemd_lines.specs.Views.{lines_view}
 use Rattle.livemd_write.proofs.Blocks.{forced_turn, left_at, lines_last}
 use Rattle.livemd_write.proofs.page.push_lines.Goals as goal
 

@@ -1,6 +1,6 @@
 use Rattle.std.proofs.Common.{ap, ◌∙◌}
 use Rattle.std.specs.String.{string_bytes}
-use Rattle.livemd_write.specs.Texts.{joined_by, texts}
+use Rattle.livemd_write.specs.Texts.{texts}
 use Rattle.livemd_write.proofs.Pieces.{clean_made, weaker}
 use Rattle.livemd_write.proofs.texts.clean.Goals as goal
 

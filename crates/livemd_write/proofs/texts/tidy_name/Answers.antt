@@ -7,8 +7,8 @@ use Rattle.livemd_write.specs.Texts.{space_for}
 use Rattle.livemd_write.proofs.Pieces.{name_made, text_made, weaker}
 use Rattle.livemd_write.proofs.texts.tidy_name.Goals as goal
 
-pub returns : goal.returns
-returns c =
+pub returns-clause-tidy : goal.returns-clause-tidy
+returns-clause-tidy c =
     weaker
     _
     _

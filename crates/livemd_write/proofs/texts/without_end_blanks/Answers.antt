@@ -1,4 +1,4 @@
-use Rattle.std.proofs.Common.{◌≡◌, ◌<◌, ◌-◌, false, sym, ◌∙◌, arith}
+use Rattle.std.proofs.Common.{sym, ◌∙◌, arith}
 use Rattle.livemd_write.proofs.Pieces.{ends_at, lines_back, lines_end}
 use Rattle.livemd_write.proofs.texts.without_end_blanks.Goals as goal
 use Rattle.livemd_write.proofs.texts.without_end_blanks.Goals.{then-loop-end-test+else-is_blank, else-loop-end-test}

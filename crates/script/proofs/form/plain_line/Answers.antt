@@ -23,3 +23,10 @@ returns-then-eq-3 c =
     let empty : c.is_empty.result ≡ true = search rules in
     let end : c.args.rest.now ≡ [] = empty-from_test c.args.rest.now c.is_empty.result c.is_empty.ensures empty in
     record { word_is = word; client = refl; end_is = end }
+
+pub returns-then-eq-4 : goal.returns-then-eq-4
+returns-then-eq-4 c =
+    let word : c.args.word.now ≡ codes "book" = search (rules, bytes_eq-Decides) in
+    let empty : c.is_empty.result ≡ true = search rules in
+    let end : c.args.rest.now ≡ [] = empty-from_test c.args.rest.now c.is_empty.result c.is_empty.ensures empty in
+    record { word_is = word; client = refl; end_is = end }

@@ -2,7 +2,7 @@ use Rattle.std.proofs.Common.{ap, string_bytes}
 use Rattle.driver.specs.Player.{Game}
 use Rattle.driver.proofs.Leading.{line-played}
 use Rattle.driver.proofs.player.Player.line.Goals as goal
-use Rattle.driver.proofs.player.Player.line.Goals.{in-Join+in_ok-join-in-Join, in-Leave+in_ok-leave-in-Leave, in-Edit+in_ok-edit-in-Edit, in-Post+in_ok-post-in-Post, in-PostReport+in_ok-post_report-in-PostReport, in-Send+in_ok-send-in-Send, in-Recv+in_ok-recv-in-Recv, in-Sync+in_ok-sync-in-Sync, in-Show+in_ok-show-in-Show, in-Pending+in_ok-pending-in-Pending, in-RawJoin+in_ok-raw_join-in-RawJoin, in-Raw+in_ok-raw-in-Raw, in-Settle+in_ok-settle-in-Settle, in-Cells+in_ok-cells-in-Cells}
+use Rattle.driver.proofs.player.Player.line.Goals.{in-Join+in_ok-join-in-Join, in-Leave+in_ok-leave-in-Leave, in-Edit+in_ok-edit-in-Edit, in-Post+in_ok-post-in-Post, in-PostReport+in_ok-post_report-in-PostReport, in-Send+in_ok-send-in-Send, in-Recv+in_ok-recv-in-Recv, in-Sync+in_ok-sync-in-Sync, in-Show+in_ok-show-in-Show, in-Pending+in_ok-pending-in-Pending, in-RawJoin+in_ok-raw_join-in-RawJoin, in-Raw+in_ok-raw-in-Raw, in-Settle+in_ok-settle-in-Settle, in-Cells+in_ok-cells-in-Cells, in-Book+in_ok-book-in-Book}
 
 pub returns : goal.returns
 returns g c = λ n0 s st.
@@ -22,4 +22,5 @@ returns g c = λ n0 s st.
       | in-Raw+in_ok-raw-in-Raw w ↦ line-played k _ c.args.line.now c.args.self.now _ _ s _ _ _ w.in-Raw.is c.new-out.ensures.bytes w.self-is (ap string_bytes w.out-is) (w.in_ok-raw-in-Raw.ensures k s w.name_in-in-Raw.ensures st)
       | in-Settle+in_ok-settle-in-Settle w ↦ line-played k _ c.args.line.now c.args.self.now _ _ s _ _ _ w.in-Settle.is c.new-out.ensures.bytes w.self-is (ap string_bytes w.out-is) (w.in_ok-settle-in-Settle.ensures k s st)
       | in-Cells+in_ok-cells-in-Cells w ↦ line-played k _ c.args.line.now c.args.self.now _ _ s _ _ _ w.in-Cells.is c.new-out.ensures.bytes w.self-is (ap string_bytes w.out-is) (w.in_ok-cells-in-Cells.ensures k s st)
+      | in-Book+in_ok-book-in-Book w ↦ line-played k _ c.args.line.now c.args.self.now _ _ s _ _ _ w.in-Book.is c.new-out.ensures.bytes w.self-is (ap string_bytes w.out-is) (w.in_ok-book-in-Book.ensures k s st)
     ]

@@ -1,9 +1,0 @@
-mod Building
-pub mod Causes
-mod Counting
-mod Fronts
-mod Growing
-mod Numbering
-mod Settling
-mod Steps
-mod Trims
