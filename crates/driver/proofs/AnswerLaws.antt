@@ -1,6 +1,6 @@
 -- From the parts' answers to the program's.
 use Rattle.std.proofs.Common.{◌≡◌, ◌≢◌, ℕ, ◌≤◌, ◌<◌, inl, inr, length, get_or, OnOk, List, [], ◌∷◌, map, Option, Some, None, Result, Ok, Err, refl, sym, subst, arith}
-use Rattle.book_outside.specs.Outside.{Rose, GivesFront}
+use Rattle.book_outside.specs.Outside.{Rose}
 use Rattle.livemd_read.specs.declared.types.Read.{Read}
 use Rattle.livemd_read.specs.declared.types.BookError.{BookError}
 use Rattle.livemd_read.specs.declared.types.BookError.TheVariants.{OutOfMemory as BookMemory}
