@@ -43,12 +43,13 @@ use Rattle.script.specs.declared.line.ScriptLine.TheVariants.{Join, Leave, RawJo
 use Rattle.driver.specs.Lines.{joined_words, not_joined_words, left_words, raw_joined_words, raw_not_joined_words, raw_words, sent_words}
 use Rattle.driver.specs.Turns.{Turn, Made, turns_from, AreMarks}
 use Rattle.driver.specs.Player.{Game, Stage, Sent, say, name_of, joined, raw_joined, play_line, send_next, without_front}
-use Rattle.driver.specs.Headline.{AllOfRun, AllAnswered, AllFair, IsFair, IsFollowed, call_of}
+use Rattle.driver.specs.Headline.{AllOfRun, AllAnswered, AllFair, IsFair, IsFollowed, TakeReadyLanes, call_of}
 use Rattle.driver.specs.Clients.{AreMirrored, AreApart}
 use Rattle.driver.specs.Standing.{Stands, HasDone, HasPlayed, HasAsked, HasAdmitted, world_of, entries_of, turns_of}
 use Rattle.driver.specs.declared.player.Player.{Player}
 use Rattle.driver.proofs.Marks.{marks-longer, turns-made, run-push, asked-push, answered-more, fair-push, same-call}
 use Rattle.driver.proofs.Placing.{mirrored-append, apart-without}
+use Rattle.driver.proofs.Readying.{ready-called}
 
 -- an answer to a client's call starts nothing
 abbrev pub starts : Reply → Bool
@@ -164,6 +165,7 @@ pub record Grew (g : Game) (p p' : Player) (s : Stage) (n : ℕ) (op : Op) (answ
   pub marks : AreMarks 0 p'.marks (length (entries_of p'))
   pub run : AllOfRun 0 (entries_of p')
   pub answered : AllAnswered (entries_of p')
+  pub ready : TakeReadyLanes g.opening 1 [] (entries_of p')
   pub asked : s.asked ++ ByClient n op ∷ [] ≡ map call_of (entries_by (entries_of p') 0)
   pub history : entries_of p' ≡ (called (world_of g.opening (entries_of p) s.clients) (ByClient n op)).history
 
@@ -178,6 +180,7 @@ grew g p p' s n op answer st ans em =
           (subst (λ x. AreMarks 0 p.marks (length x)) (sym ans.history) (marks-longer 0 p.marks (length h) (length (h ++ e ∷ [])) (rw (length-append h (e ∷ [])) (omega arith)) st.marks));
       run = subst (AllOfRun 0) (sym ans.history) (run-push h e st.run refl);
       answered = subst AllAnswered (sym ans.history) (answered-more h e st.answered (subst (λ a. IsFollowed a []) (sym ans.right) (not-followed (reply (state g.opening h) call) [] (client-starts (state g.opening h) n op))));
+      ready = subst (TakeReadyLanes g.opening 1 []) (sym ans.history) (ready-called g.opening 1 h 0 n op answer st.ready);
       asked = ap (λ cs. cs ++ call ∷ []) st.asked ∙ (sym (asked-push h e refl) ∙ ap (λ x. map call_of (entries_by x 0)) (sym ans.history));
       history = ans.history ∙ ap (λ a. h ++ entry_of 0 call a ∷ []) ans.right;
     }
@@ -248,6 +251,7 @@ called-done g act p p' s n op answer cs sent lines before out st ans em mir whol
             marks = gr.marks;
             run = gr.run;
             answered = gr.answered;
+            ready = gr.ready;
             fair = fair;
             asked = gr.asked;
             whole = whole;

@@ -12,15 +12,16 @@ use Rattle.session_ops.specs.declared.entry.Entry.{Entry}
 use Rattle.lanes.specs.declared.work.Running.{Running}
 use Rattle.lanes.specs.Changes.{running_eval}
 use Rattle.session_ops.specs.State.{respond_reply}
-use Rattle.session_core.specs.Session.{HasAnswered, HasStarted, IsAsBefore, history_of, state_of, entry_of}
+use Rattle.session_core.specs.Session.{HasAnswered, HasStarted, IsAsBefore, history_of, state_of, entry_of, ready_lane}
 use Rattle.session_core.specs.declared.session.Session.{Session}
 use Rattle.driver.specs.Headline.{AllAnswered, IsFollowed}
 use Rattle.driver.specs.Settling.{HasGoneOn, HasResponded}
 use Rattle.driver.proofs.Marks.{followed-more}
+use Rattle.driver.proofs.Readying.{ready-none, ready-append, ready-start, ready-response}
 
 -- nothing was evaluated
 pub gone-as-before : (n0 : Parts) (by : ℕ) (a b : Session) → IsAsBefore n0 a b → HasGoneOn n0 by a b
-gone-as-before n0 by a b x = record { more = []; history = x.history ∙ sym (append-nil (history_of a)); evaluations = tt; answered = λ all. subst AllAnswered (sym x.history) all; session = x.session }
+gone-as-before n0 by a b x = record { more = []; history = x.history ∙ sym (append-nil (history_of a)); evaluations = tt; ready = ready-none n0 by (history_of a); answered = λ all. subst AllAnswered (sym x.history) all; session = x.session }
 
 -- an evaluation is answered as stored or as late
 ends-here : (eval : ℕ) (o : Option Running) → IsFollowed (respond_reply eval o) []
@@ -41,9 +42,9 @@ answered-two : (lane : Lane) (h : List Entry) (by : ℕ) (job : PlainJob) (shown
 answered-two lane [] by job shown answer f all = (refl, (f, tt))
 answered-two lane (x ∷ h) by job shown answer f all = (followed-two lane x.reply h by job shown answer all.0, answered-two lane h by job shown answer f all.1)
 
--- a job was handed out and answered
-pub gone-by-one : (n0 : Parts) (by : ℕ) (lane : Lane) (a b c : Session) (job : PlainJob) → HasStarted n0 by lane a b job → HasResponded n0 by job.eval b c → HasGoneOn n0 by a c
-gone-by-one n0 by lane a b c job s r =
+-- a job of the lane that was ready first was handed out and answered
+pub gone-by-one : (n0 : Parts) (by : ℕ) (lane : Lane) (a b c : Session) (job : PlainJob) → ready_lane (state_of n0 a) ≡ Some lane → HasStarted n0 by lane a b job → HasResponded n0 by job.eval b c → HasGoneOn n0 by a c
+gone-by-one n0 by lane a b c job first s r =
     let shown : Shown = r.0 in
     let answer : Reply = r.1.0 in
     let done : HasAnswered n0 by (Respond job.eval shown) b c answer = r.1.1 in
@@ -54,6 +55,7 @@ gone-by-one n0 by lane a b c job s r =
       more = both-entries lane by job shown answer;
       history = grown;
       evaluations = (refl, (tt, (refl, (tt, tt))));
+      ready = ready-append n0 by (history_of a) (start ∷ []) (end ∷ []) (ready-start n0 by (history_of a) lane (Started job.eval job.cell) first) (ready-response n0 by (history_of a ++ start ∷ []) by job.eval shown answer);
       answered = λ all. subst AllAnswered (sym grown) (answered-two lane (history_of a) by job shown answer (subst (λ x. IsFollowed x []) (sym done.right) (ends-here job.eval (running_eval (state_of n0 b).work job.eval))) all);
       session = done.session;
     }

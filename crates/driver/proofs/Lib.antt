@@ -9,6 +9,7 @@ pub mod Marks
 pub mod Once
 pub mod Placing
 pub mod Played
+pub mod Readying
 pub mod Receiving
 pub mod Sending
 pub mod Settled

@@ -21,7 +21,7 @@ use Rattle.script.specs.declared.line.Count.{Count}
 use Rattle.driver.specs.Lines.{received_words, sync_words}
 use Rattle.driver.specs.Turns.{Turn, Looked, turns_from, AreMarks}
 use Rattle.driver.specs.Player.{Game, Stage, Marked, or_none, looks, say, with_clients, name_of, how_many, unseen, receive_some, receive_all, send_each, round, rounds, all_sent}
-use Rattle.driver.specs.Headline.{AllOfRun, AllAnswered, AllFair, call_of}
+use Rattle.driver.specs.Headline.{AllOfRun, AllAnswered, AllFair, TakeReadyLanes, call_of}
 use Rattle.driver.specs.Clients.{AreMirrored, AreApart, IsAt, HasReceived, IsLawful}
 use Rattle.driver.specs.Standing.{Stands, HasDone, HasPlayed, HasRound, HasReceivedSome, world_of, entries_of, turns_of}
 use Rattle.driver.specs.declared.player.Player.{Player}
@@ -40,6 +40,7 @@ look-stands g p p' s t st es em used asked same_sent whole honest apart mir =
       marks = subst (λ ms. AreMarks 0 ms (length (entries_of p'))) (sym em) (subst (λ x. AreMarks 0 (p.marks ++ length (entries_of p) ∷ []) (length x)) (sym eh) (marks-push 0 p.marks (length (entries_of p)) (omega arith) st.marks));
       run = subst (AllOfRun 0) (sym eh) st.run;
       answered = subst AllAnswered (sym eh) st.answered;
+      ready = subst (TakeReadyLanes g.opening 1 []) (sym eh) st.ready;
       fair = subst (AllFair g.opening) (sym same_sent) st.fair;
       asked = asked ∙ (st.asked ∙ ap (λ x. map call_of (entries_by x 0)) (sym eh));
       whole = subst (λ x. IsWhole (world_of g.opening x t.clients)) (sym eh) whole;
@@ -202,7 +203,7 @@ sync-played g a b c s at x y z out i r sent printed =
           ap (λ k. rounds k g (record s { turns = all ++ rest })) (sym d.1 ∙ fuel)
           ∙ (ap (λ ts. rounds (suc d.0 + i.count) g (record s { turns = ts })) (append_assoc i.more r.more rest)
           ∙ (i.acts (r.more ++ rest) (suc d.0) ∙ (ap (λ o. after_round d.0 g o) (r.acts rest) ∙ ap (λ b. if b then Some (say words (record r.stage { turns = rest })) else rounds d.0 g (record r.stage { turns = rest })) sent)));
-      stands = record { session = r.stands.session; used = refl; marks = r.stands.marks; run = r.stands.run; answered = r.stands.answered; fair = r.stands.fair; asked = r.stands.asked; whole = r.stands.whole; honest = r.stands.honest; apart = r.stands.apart; mirrored = r.stands.mirrored };
+      stands = record { session = r.stands.session; used = refl; marks = r.stands.marks; run = r.stands.run; answered = r.stands.answered; ready = r.stands.ready; fair = r.stands.fair; asked = r.stands.asked; whole = r.stands.whole; honest = r.stands.honest; apart = r.stands.apart; mirrored = r.stands.mirrored };
       piece = (i.piece ++ r.piece) ++ as_text words;
       printed = printed ∙ (ap (λ k. z ++ as_text (sync_words k ∷ [])) r.at_is ∙ (ap (λ w. w ++ as_text words) (r.printed ∙ (ap (λ w. w ++ r.piece) i.printed ∙ append_assoc x i.piece r.piece)) ∙ append_assoc x (i.piece ++ r.piece) (as_text words)));
       said = ap (λ w. w ++ as_text words) (r.said ∙ (ap (λ w. w ++ r.piece) i.said ∙ append_assoc s.said i.piece r.piece)) ∙ append_assoc s.said (i.piece ++ r.piece) (as_text words);

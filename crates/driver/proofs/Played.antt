@@ -21,7 +21,7 @@ use Rattle.driver.specs.Lines.{notice_line}
 use Rattle.driver.specs.Turns.{Turn, Looked, turns_from, AreMarks}
 use Rattle.driver.specs.Player.{Game, Stage, or_none, say, play, play_line, settled, states_at}
 use Rattle.driver.specs.Transcript.{game, begun, stage_after, finished, ending, transcript, end_lines}
-use Rattle.driver.specs.Headline.{AllOfRun, AllAnswered, AllClients, IsHistory, IsPlayed, call_of}
+use Rattle.driver.specs.Headline.{AllOfRun, AllAnswered, AllClients, TakeReadyLanes, IsHistory, IsPlayed, call_of}
 use Rattle.driver.specs.Clients.{AreMirrored}
 use Rattle.driver.specs.Standing.{Stands, HasDone, HasPlayed, entries_of, turns_of}
 use Rattle.driver.specs.Ends.{IsFresh, HasEnded, EndsWritten}
@@ -32,6 +32,7 @@ use Rattle.driver.proofs.Once.{all-grown}
 use Rattle.driver.proofs.Fronts.{fronts-show}
 use Rattle.driver.proofs.Showing.{listed-lines}
 use Rattle.driver.proofs.Settled.{looked-stands, looked-turns}
+use Rattle.driver.proofs.Readying.{ready-none}
 
 -- written pieces
 pub written-more : (w0 w1 w2 : Option (List ℕ)) (xs ys : List ℕ) → AppendsAll w0 xs w1 → AppendsAll w1 ys w2 → AppendsAll w0 (xs ++ ys) w2
@@ -66,7 +67,7 @@ have-all g lines i p0 p1 s w0 w1 le x = subst (λ ls. HavePlayed g lines ls p0 p
 
 -- a history that was played
 pub history-of : (g : Game) (p : Player) (s : Stage) → Stands g p s → IsHistory g.opening 0 (entries_of p) p.marks
-history-of g p s st = record { legal = st.session.legal; marked = st.marks; others = st.run; answered = st.answered }
+history-of g p s st = record { legal = st.session.legal; marked = st.marks; others = st.run; answered = st.answered; ready = st.ready }
 
 -- the line was played, but its piece could not be written
 pub have-failed : (g : Game) (lines last : List ScriptLine) (l : ScriptLine) (p0 p1 p2 : Player) (s : Stage) (w0 w1 : Option (List ℕ)) (bytes : List ℕ) → HavePlayed g lines last p0 p1 s w0 w1 → ((t : Stage) → Stands g p1 t → HasPlayed g l p1 p2 t [] bytes) → IsHistory g.opening 0 (entries_of p2) p2.marks
@@ -86,6 +87,7 @@ first-stands n0 names p fr =
       marks = subst (λ ms. AreMarks 0 ms (length (entries_of p))) (sym fr.marks) tt;
       run = subst (AllOfRun 0) (sym fr.history) tt;
       answered = subst AllAnswered (sym fr.history) tt;
+      ready = subst (TakeReadyLanes n0 1 []) (sym fr.history) (ready-none n0 1 []);
       fair = tt;
       asked = ap (λ h. map call_of (entries_by h 0)) (sym fr.history);
       whole = record { legal = fr.session.legal; notebook = fr.session.opening; joined = tt; behind = tt };
@@ -118,7 +120,7 @@ all-played n0 content p0 p1 p2 w0 w1 w2 fr x ends =
       text,
       (
         record {
-          history = record { legal = end.session.legal; marked = end.marks; others = end.run; answered = end.answered };
+          history = record { legal = end.session.legal; marked = end.marks; others = end.run; answered = end.answered; ready = end.ready };
           printed = printed;
           stage = last;
           played = done;

@@ -26,13 +26,14 @@ use Rattle.script.specs.declared.line.ScriptLine.TheVariants.{Settle, Cells, Boo
 use Rattle.transcript.specs.Texts.{as_text}
 use Rattle.driver.specs.Turns.{Looked, turns_from, AreMarks}
 use Rattle.driver.specs.Player.{Game, Stage, say, say_text, states_at}
-use Rattle.driver.specs.Headline.{AllOfRun, IsEvaluation, call_of}
+use Rattle.driver.specs.Headline.{AllOfRun, IsEvaluation, TakeReadyLanes, call_of}
 use Rattle.driver.specs.Clients.{AreMirrored}
 use Rattle.driver.specs.Statuses.{Tells, status_lines}
 use Rattle.driver.specs.Settling.{AreEvaluationsBy, HasGoneOn, HasSettled}
 use Rattle.driver.specs.Standing.{Stands, HasPlayed, entries_of, turns_of}
 use Rattle.driver.specs.declared.player.Player.{Player}
 use Rattle.driver.proofs.Marks.{marks-longer, marks-push, turns-looked, turns-evaluated, run-evaluated, asked-evaluated}
+use Rattle.driver.proofs.Readying.{ready-none, ready-append}
 
 -- nobody joins by an evaluation
 joined-call : (s : State) (call : Call) (answer : Reply) → IsEvaluation call → (after_call s call answer).joined ≡ s.joined
@@ -99,6 +100,7 @@ looked-said g p p' s text st gone ec em =
       marks = subst (λ ms. AreMarks 0 ms (length h')) (sym em) (marks-push 0 p.marks (length h') (omega arith) (marks-longer 0 p.marks (length h) (length h') more st.marks));
       run = subst (AllOfRun 0) (sym gone.history) (run-evaluated h gone.more st.run gone.evaluations);
       answered = gone.answered st.answered;
+      ready = subst (TakeReadyLanes g.opening 1 []) (sym gone.history) (ready-append g.opening 1 [] h gone.more st.ready gone.ready);
       fair = st.fair;
       asked = st.asked ∙ (sym (asked-evaluated h gone.more gone.evaluations) ∙ ap (λ x. map call_of (entries_by x 0)) (sym gone.history));
       whole =
@@ -125,7 +127,7 @@ looked-turns g p p' s st gone em =
 
 -- before the first evaluation
 pub gone-nowhere : (n0 : Parts) (by : ℕ) (s : Session) → IsSession n0 s → HasGoneOn n0 by s s
-gone-nowhere n0 by s is = record { more = []; history = sym (append-nil (history_of s)); evaluations = tt; answered = λ a. a; session = is }
+gone-nowhere n0 by s is = record { more = []; history = sym (append-nil (history_of s)); evaluations = tt; ready = ready-none n0 by (history_of s); answered = λ a. a; session = is }
 
 evaluations-more : (by : ℕ) (xs ys : List Entry) → AreEvaluationsBy by xs → AreEvaluationsBy by ys → AreEvaluationsBy by (xs ++ ys)
 evaluations-more by [] ys a b = b
@@ -138,6 +140,7 @@ gone-further n0 by a b c x y =
       more = x.more ++ y.more;
       history = y.history ∙ (ap (λ h. h ++ y.more) x.history ∙ append_assoc (history_of a) x.more y.more);
       evaluations = evaluations-more by x.more y.more x.evaluations y.evaluations;
+      ready = ready-append n0 by (history_of a) x.more y.more x.ready (subst (λ h. TakeReadyLanes n0 by h y.more) x.history y.ready);
       answered = λ all. y.answered (x.answered all);
       session = y.session;
     }

@@ -28,7 +28,7 @@ use Rattle.script.specs.declared.line.Count.{Count}
 use Rattle.driver.specs.Lines.{no_client_words, edit_words, posted_words, not_posted_words, raw_refused_words, nothing_words, pending_words, pending_answer, error_words}
 use Rattle.driver.specs.Turns.{Turn, turns_from, AreMarks}
 use Rattle.driver.specs.Player.{Game, Stage, say, with_clients, name_of, with_edited, play_line, posted, with_report, send_or_nothing, pending_shown}
-use Rattle.driver.specs.Headline.{AllOfRun, AllAnswered, AllFair, call_of}
+use Rattle.driver.specs.Headline.{AllOfRun, AllAnswered, AllFair, TakeReadyLanes, call_of}
 use Rattle.driver.specs.Clients.{AreMirrored, AreApart, IsAt, IsPlace, place_in}
 use Rattle.driver.specs.Standing.{Stands, HasDone, HasPlayed, HasEdited, HasPosted, HasPostedIf, HasReported, HasReportedSo, world_of, entries_of, turns_of}
 use Rattle.driver.specs.declared.player.Player.{Player}
@@ -46,6 +46,7 @@ stands-with g p p' s t st es em used asked same_sent whole honest apart mir =
       marks = subst (λ ms. AreMarks 0 ms (length (entries_of p'))) (sym em) (subst (λ x. AreMarks 0 p.marks (length x)) (sym eh) st.marks);
       run = subst (AllOfRun 0) (sym eh) st.run;
       answered = subst AllAnswered (sym eh) st.answered;
+      ready = subst (TakeReadyLanes g.opening 1 []) (sym eh) st.ready;
       fair = subst (AllFair g.opening) (sym same_sent) st.fair;
       asked = asked ∙ (st.asked ∙ ap (λ x. map call_of (entries_by x 0)) (sym eh));
       whole = subst (λ x. IsWhole (world_of g.opening x t.clients)) (sym eh) whole;

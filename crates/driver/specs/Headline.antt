@@ -11,10 +11,12 @@ use Rattle.session_ops.specs.declared.entry.Entry.{Entry}
 use Rattle.session_ops.specs.declared.entry.Reply.{Reply}
 use Rattle.session_ops.specs.declared.entry.Reply.TheVariants.{Started}
 use Rattle.notebook.specs.declared.parts.Passed.{Passed}
+use Rattle.notebook.specs.declared.states.Lane.{Lane}
 use Rattle.notebook.specs.Flow.{path}
 use Rattle.lanes.specs.declared.work.Finished.{Finished}
 use Rattle.lanes.specs.Work.{last_finished, is_evaluated}
 use Rattle.session_ops.specs.State.{State, Legal, state, first_source, taken_by, entries_by, ShowsAlong}
+use Rattle.session_core.specs.Session.{entry_of, ready_lane}
 use Rattle.client_sync.specs.Client.{Client, held}
 use Rattle.world.specs.Waiting.{IsHonest, IsFairAnswer}
 use Rattle.script.specs.declared.content.Content.{Content}
@@ -90,12 +92,17 @@ abbrev pub AllAnswered : List Entry → Type 0
 AllAnswered [] = Unit {0}
 AllAnswered (e ∷ es) = IsFollowed e.reply es × AllAnswered es
 
--- a legal history with marks in their order, whose entries are the player's, under 0, or evaluators', each of whose answers follows its start
+-- of some entries after a history, each start under the number is in the first lane that could start just then
+abbrev pub TakeReadyLanes : Parts → ℕ → List Entry → List Entry → Type 0
+TakeReadyLanes n0 by h es = (before rest : List Entry) (lane : Lane) (answer : Reply) → es ≡ before ++ entry_of by (Start lane) answer ∷ rest → ready_lane (state n0 (h ++ before)) ≡ Some lane
+
+-- a legal history with marks in their order, whose entries are the player's, under 0, or evaluators', each of whose answers follows its start; settling, whose starts stand under 1, takes the first lane that may start
 pub record IsHistory (n0 : Parts) (workers : ℕ) (h : List Entry) (marks : List ℕ) : Type 0 where
   pub legal : Legal n0 h
   pub marked : AreMarks 0 marks (length h)
   pub others : AllOfRun workers h
   pub answered : AllAnswered h
+  pub ready : TakeReadyLanes n0 1 [] h
 
 -- a run that was played to its end: what is printed; the stage at the end, whose calls are the player's entries in order, each once (so each posted message has at most one entry); each message of a client fairly answered; its clients; each source, with each accepted delta in it once; and what each evaluated cell shows after each front of the history
 pub record IsPlayed (n0 : Parts) (notices : List (List ℕ)) (script : Content) (workers : ℕ) (h : List Entry) (marks : List ℕ) (text : List ℕ) : Type 0 where

@@ -24,7 +24,7 @@ use Rattle.transcript.specs.Texts.{as_text}
 use Rattle.driver.specs.Lines.{sent_words, edit_words, error_words, received_words, posted_words, not_posted_words}
 use Rattle.driver.specs.Turns.{Turn, turns_from, AreMarks}
 use Rattle.driver.specs.Player.{Game, Stage, play_line, round, receive_some}
-use Rattle.driver.specs.Headline.{AllOfRun, AllAnswered, AllFair, call_of}
+use Rattle.driver.specs.Headline.{AllOfRun, AllAnswered, AllFair, TakeReadyLanes, call_of}
 use Rattle.driver.specs.Clients.{AreMirrored, AreApart}
 use Rattle.driver.specs.declared.player.Player.{Player}
 
@@ -47,6 +47,7 @@ pub record Stands (g : Game) (p : Player) (s : Stage) : Type 0 where
   pub marks : AreMarks 0 p.marks (length (entries_of p))
   pub run : AllOfRun 0 (entries_of p)
   pub answered : AllAnswered (entries_of p)
+  pub ready : TakeReadyLanes g.opening 1 [] (entries_of p)
   pub fair : AllFair g.opening s.sent
   pub asked : s.asked ≡ map call_of (entries_by (entries_of p) 0)
   pub whole : IsWhole (world_of g.opening (entries_of p) s.clients)

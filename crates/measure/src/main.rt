@@ -1,16 +1,19 @@
-//! What composing, transforming and taking turns cost: `scripts/bench` starts this program with growing numbers.
+//! What composing, transforming, reading sources and taking turns cost: `scripts/bench` starts this program with growing numbers.
 //!
 //! Without words it does each once at a small size, and prints only what comes out, which is the same at every run.
 //! `deltas PAIRS` composes and transforms two deltas of that many pairs of steps. `turns THREADS TURNS` takes that many
-//! turns on each thread, at the turn lock and at a mutex. These two print microseconds too.
+//! turns on each thread, at the turn lock and at a mutex. `source` reads a source of a cell from standard input as trees.
+//! These three print microseconds too.
 #![tactic(auto)]
 
 mod deltas;
 mod measured;
+mod sources;
 mod turns;
 mod words;
 
 use measured::tell;
+use sources::Reading;
 use std::alloc::Global;
 use std::process::ExitCode;
 use std::sync::Wait;
@@ -28,13 +31,13 @@ fn main(rt: HostRuntime) -> io::Result<ExitCode> {
             Ok(ExitCode::from(0))
         }
         None => {
-            eprintln!(rt; "usage: measure [deltas PAIRS | turns THREADS TURNS]")?;
+            eprintln!(rt; "usage: measure [deltas PAIRS | source | turns THREADS TURNS]")?;
             Ok(ExitCode::from(1))
         }
     }
 }
 
-fn run<R: Threads + Wait + Sync + Clock + Print>(
+fn run<R: Threads + Wait + Sync + Clock + Print + Input>(
     rt: &R,
     alloc: Global,
     task: Task,
@@ -42,10 +45,15 @@ fn run<R: Threads + Wait + Sync + Clock + Print>(
     match task {
         Task::Small { crew } => {
             run_deltas(rt, alloc, 500, false)?;
+            run_source(rt, alloc, "x = [1, 2]; Enum.sum(x)", false)?;
             run_turns(rt, alloc, crew, false)?;
             Ok(())
         }
         Task::Deltas { pairs } => run_deltas(rt, alloc, pairs, true),
+        Task::Source => {
+            let source = io::read_to_string(alloc, rt.reader())?;
+            run_source(rt, alloc, source.as_str(), true)
+        }
         Task::Turns { crew } => run_turns(rt, alloc, crew, true),
     }
 }
@@ -55,6 +63,18 @@ fn run_deltas<R: Clock + Print>(rt: &R, alloc: Global, pairs: u64, timed: bool) 
     tell(rt, "composed steps", &steps.composed, timed)?;
     tell(rt, "transformed steps", &steps.transformed, timed)?;
     Ok(())
+}
+
+fn run_source<R: Threads + Wait + Sync + Clock + Print>(
+    rt: &R,
+    alloc: Global,
+    source: &str,
+    timed: bool,
+) -> io::Result<()> {
+    match sources::measure(rt, alloc, source)? {
+        Reading::Read(nodes) => tell(rt, "nodes", &nodes, timed),
+        Reading::Refused(at) => tell(rt, "refused at byte", &at, timed),
+    }
 }
 
 fn run_turns<R: Threads + Wait + Sync + Clock + Print>(

@@ -14,6 +14,7 @@ pub struct Crew {
 pub enum Task {
     Small { crew: Crew },
     Deltas { pairs: u64 },
+    Source,
     Turns { crew: Crew },
 }
 
@@ -27,6 +28,7 @@ pub fn task_of(words: &[String]) -> Option<Task> {
             },
         }),
         [_, task, pairs] if task.as_str() == "deltas" => deltas_of(pairs.as_str()),
+        [_, task] if task.as_str() == "source" => Some(Task::Source),
         [_, task, threads, turns] if task.as_str() == "turns" => {
             turns_of(threads.as_str(), turns.as_str())
         }

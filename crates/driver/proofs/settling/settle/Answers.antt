@@ -1,4 +1,8 @@
-use Rattle.std.proofs.Common.{sym}
+use Rattle.std.proofs.Common.{◌≡◌, true, sym}
+use Rattle.lanes.specs.Work.{is_idle}
+use Rattle.session_ops.specs.State.{State}
+use Rattle.session_core.specs.Session.{state_of}
+use Rattle.driver.proofs.Readying.{idle-none}
 use Rattle.driver.proofs.Settled.{gone-further, gone-nowhere}
 use Rattle.driver.proofs.settling.settle.Goals as goal
 
@@ -13,4 +17,6 @@ loop-preserved g c = λ n0 is.
 pub returns-then-is_idle : goal.returns-then-is_idle
 returns-then-is_idle g c = λ n0 is.
     let so_far = c.loop.invariant n0 is in
-    record { gone = so_far; idle = sym (c.if-is_idle.ensures n0 so_far.session) }
+    let idle : is_idle (state_of n0 c.loop.session).work ≡ true = sym (c.if-is_idle.ensures n0 so_far.session) in
+    let last : State = state_of n0 c.loop.session in
+    record { gone = so_far; idle = idle; over = idle-none last.book last.work idle }
