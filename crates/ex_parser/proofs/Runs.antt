@@ -1,5 +1,6 @@
 -- The parser's loops: one expression, and the expressions of a source, one after the other.
 use Rattle.std.proofs.Common.{◌≡◌, ◌≢◌, ◌⊎◌, inl, inr, ℕ, zero, suc, ◌+◌, ◌*◌, ◌<◌, ◌≤◌, true, false, List, [], ◌∷◌, ◌++◌, length, take, drop, get_or, refl, sym, ap, ◌∙◌, arith, subst, length-append, append_assoc}
+use Rattle.std.specs.List.{AllByRecursion}
 use Rattle.std.proofs.lemmas.List.{append-nil}
 use Rattle.ex_grammar.specs.declared.token.Token.{Token as CodeToken}
 use Rattle.ex_grammar.specs.declared.token.TokenKind.{TokenKind}
@@ -9,7 +10,8 @@ use Rattle.ex_grammar.specs.Newlines.{Lexes, bare}
 use Rattle.ex_grammar.specs.Trees.{Tree, Trees, NoTree, OneMore, joined}
 use Rattle.ex_grammar.specs.Grammar as D
 use Rattle.ex_grammar.specs.Grammar.{End, Derives, DeriveAll, DeriveSource, MaySeparate, without, with}
-use Rattle.ex_grammar.specs.Reading.{NoTrees, IsSyntaxAt, NestsWithin}
+use Rattle.ex_grammar.specs.Nests.{Open, open_at, nests_from, nothing_open}
+use Rattle.ex_grammar.specs.Reading.{NoTrees, IsSyntaxAt, NestsWithin, NestsTooDeep}
 use Rattle.ex_lexer.specs.Lexed.{HasTokens}
 use Rattle.ex_parser.specs.declared.tree.Node.{Node}
 use Rattle.ex_parser.specs.declared.tree.Ast.{Ast}
@@ -21,7 +23,7 @@ use Rattle.ex_parser.specs.Follow.{after_separator}
 use Rattle.ex_parser.specs.Machine.{Frame, State, Want, Have, Done, Stuck, step, is_over, Reaches, here, there, EndsAt, GoesOff, IsNoWhole}
 use Rattle.ex_parser.specs.Stands.{IsAt, AreAt}
 use Rattle.ex_parser.specs.Shown.{token_of, tokens_of, AreTokens, IsStack, Shows, Grows, Turned}
-use Rattle.ex_parser.specs.Parsed.{HasTrees, ParsedIs, IsReading, IsUnread}
+use Rattle.ex_parser.specs.Parsed.{HasTrees, ParsedIs, IsReading, IsTooDeep, IsUnread}
 use Rattle.ex_parser.proofs.Arena.{are_more}
 use Rattle.ex_parser.proofs.Depths.{placed_at}
 use Rattle.ex_parser.proofs.Laws.{front_shorter}
@@ -272,4 +274,35 @@ pub read_as : (source : List ℕ) (xs : List CodeToken) (tree : Ast) (h : HasTok
 read_as source xs tree h n p = reading_is source xs h tree p.0 n p.2 p.1
 
 pub unread_at : (source : List ℕ) (xs : List CodeToken) (at : ℕ) (h : HasTokens source xs) → NestsWithin (bare h.tokens) → ParsedIs h.tokens (Unread at) → IsUnread source at
-unread_at source xs at h n p = record { tokens = h.tokens; lexes = h.lexes; within = n; none = p.0; place = p.1 }
+unread_at source xs at h n p = record {
+  tokens = h.tokens;
+  lexes = h.lexes;
+  within = n;
+  none = p.0;
+  place = p.1;
+  unread = λ trees r. p.0 trees (subst (λ v. DeriveSource (bare v) trees) (h.only r.tokens r.lexes) r.derives);
+}
+
+-- the levels at a front's tokens are the same in the whole
+front_within : (open' : Open) (ts us : List Token) → AllByRecursion (λ n. n ≤ 256) (nests_from open' (ts ++ us)) → AllByRecursion (λ n. n ≤ 256) (nests_from open' ts)
+front_within open' [] us h = tt
+front_within open' (t ∷ ts) us h = (h.0, front_within (open_at open' t) ts us h.1)
+
+bare_both : (ts us : List Placed) → bare (ts ++ us) ≡ bare ts ++ bare us
+bare_both [] us = refl
+bare_both (t ∷ ts) us = ap (λ w. t.token ∷ w) (bare_both ts us)
+
+-- tokens that nest too deep don't nest within the levels
+too_deep : (tokens : List Placed) (at : ℕ) → NestsTooDeep tokens at → NestsWithin (bare tokens) → ⊥
+too_deep tokens at d n =
+    let front : List Placed = d.before ++ d.first ∷ [] in
+    let whole : bare tokens ≡ bare front ++ bare d.after = ap bare (d.tokens_are ∙ sym (append_assoc d.before (d.first ∷ []) d.after)) ∙ bare_both front d.after in
+    d.opens (front_within nothing_open (bare front) (bare d.after) (subst NestsWithin whole n))
+
+pub too_deep_at : (source : List ℕ) (xs : List CodeToken) (at : ℕ) (h : HasTokens source xs) → NestsTooDeep h.tokens at → IsTooDeep source at
+too_deep_at source xs at h d = record {
+  tokens = h.tokens;
+  lexes = h.lexes;
+  opens = d;
+  unread = λ trees r. too_deep h.tokens at d (subst (λ v. NestsWithin (bare v)) (h.only r.tokens r.lexes) r.nests_within);
+}

@@ -25,19 +25,21 @@ pub record IsReading (source : List ℕ) (tree : Ast) : Type 0 where
   pub reads : Reads source trees
   pub only : (others : Trees) → Reads source others → others ≡ trees
 
--- the source has tokens, and the one at this place is the first that opens a 257th level
+-- the source reads as no expressions: it has tokens, and the one at this place is the first that opens a 257th level
 pub record IsTooDeep (source : List ℕ) (at : ℕ) : Type 0 where
   pub tokens : List Placed
   pub lexes : Lexes source tokens
   pub opens : NestsTooDeep tokens at
+  pub unread : (trees : Trees) → Reads source trees → ⊥
 
--- the source has tokens that nest within the levels, and they derive nothing; the expression that begins at this place is the first that can't be read
+-- the source reads as no expressions: it has tokens that nest within the levels, and they derive nothing; the expression that begins at this place is the first that can't be read
 pub record IsUnread (source : List ℕ) (at : ℕ) : Type 0 where
   pub tokens : List Placed
   pub lexes : Lexes source tokens
   pub within : NestsWithin (bare tokens)
   pub none : NoTrees (bare tokens)
   pub place : IsSyntaxAt tokens at
+  pub unread : (trees : Trees) → Reads source trees → ⊥
 
 -- why a source can't be read; want of memory has no cause
 abbrev pub IsCauseOf : List ℕ → ParseError → Type 0

@@ -37,8 +37,8 @@ pub enum ParseError {
     OutOfMemory,
 }
 
-/// The expressions that a source reads as. Its time is linear in the source, and no depth of nesting
-/// takes stack.
+/// The expressions that a source reads as. No depth of nesting takes stack, and its time is linear in
+/// the source, which is measured.
 pub fn parse(alloc: Global, source: &str) -> Result<Ast, ParseError>
     ensures { MatchResult result (IsReading source.now) (IsCauseOf source.now) }
 {

@@ -1,4 +1,4 @@
-// Trees, kept as nodes that name their parts by lower places.
+// Trees, kept as nodes that name their parts by places.
 use ex_grammar::{Operator, Prefix, WordValue};
 use ex_value::Word;
 
@@ -85,7 +85,7 @@ pub enum Node {
     For(Head, Vec<usize>),
 }
 
-/// The expressions of a source: all their nodes, each after its parts, and the places of the
+/// The expressions of a source: all their nodes, and the places of the
 /// expressions themselves, in order.
 #[derive(Debug, Drop)]
 pub struct Ast {

@@ -17,7 +17,8 @@ without_last [] = refl
 without_last (l ∷ []) = refl
 without_last (l ∷ k ∷ ls) = ap (λ w. l ∷ w) (without_last (k ∷ ls))
 
-no_crs : (ls : List (List ℕ)) → AllByRecursion IsLine ls → map (drop_end is_cr) ls ≡ ls
+-- they have no carriage returns at their ends
+pub no_crs : (ls : List (List ℕ)) → AllByRecursion IsLine ls → map (drop_end is_cr) ls ≡ ls
 no_crs [] h = refl
 no_crs (l ∷ ls) h = rw (h.0.1, no_crs ls h.1) refl
 

@@ -1,7 +1,7 @@
 pub mod Feeds
 mod Fronts
-mod Loop
 mod Marks
 pub mod Stretches
 mod Trims
+pub mod Walks
 mod Worked

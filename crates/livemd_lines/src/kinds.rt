@@ -1,6 +1,6 @@
 //! The lines of a text, each with what it is.
 ghost use Rattle.std.specs.Prelude.{◌≡◌, IfOk};
-ghost use Rattle.livemd_lines.specs.Lines.{is_blank, lines};
+ghost use Rattle.livemd_lines.specs.Lines.{drop_end, is_blank, is_cr, lines};
 ghost use Rattle.livemd_lines.specs.Kinds.{heading_kind, kind_of, kind_in, open_after, kinded, kinds_of};
 ghost use Rattle.livemd_lines.specs.Views.{kind_view, line_view, lines_view};
 
@@ -38,7 +38,28 @@ pub struct Line<'a> {
     pub text: &'a str,
 }
 
-impl Line<'_> {
+impl<'a> Line<'a> {
+    /// The line that a piece of a text is, where the fence is open before it, if one is. The pieces
+    /// are those of [`str::lines`].
+    pub fn of(alloc: Global, around: Option<Fence>, piece: &'a str) -> Result<Line<'a>, AllocError>
+        ensures { IfOk result (λ line. line_view line ≡ kinded around (drop_end is_cr piece.now)) }
+    {
+        let text = without_crs(piece);
+        let kind = kind_in(alloc, around, text)?;
+        Ok(Line { kind, text })
+    }
+
+    /// The fence that is open after the line, by the one that is open before it.
+    pub fn open_after(&self, around: Option<Fence>) -> Option<Fence>
+        ensures { result ≡ open_after around (kind_view self.now.kind) }
+    {
+        match &self.kind {
+            LineKind::Opens { fence, info: _ } => Some(*fence),
+            LineKind::Closes => None,
+            _ => around,
+        }
+    }
+
     /// Whether the line has only spaces and tabs, or nothing.
     pub fn is_blank(&self) -> bool
         ensures { result ≡ is_blank self.now.text.now }
@@ -92,29 +113,17 @@ fn kind_in(alloc: Global, around: Option<Fence>, line: &str) -> Result<LineKind<
     }
 }
 
-/// The fence that is open after a line of the kind, by the one that is open before it.
-fn open_after(around: Option<Fence>, kind: &LineKind<'_>) -> Option<Fence>
-    ensures { result ≡ open_after around (kind_view kind.now) }
-{
-    match kind {
-        LineKind::Opens { fence, info: _ } => Some(*fence),
-        LineKind::Closes => None,
-        _ => around,
-    }
-}
-
-/// The lines of a text, each with its kind. A text is cut at each line feed, and an empty last
-/// piece is no line.
+/// The lines of a text, each with its kind, all at once. A text is cut at each line feed, and an
+/// empty last piece is no line. [`Line::of`] serves who walks the lines and keeps none.
 pub fn lines(alloc: Global, text: &str) -> Result<Vec<Line<'_>>, AllocError>
     ensures { IfOk result (λ all. lines_view all.items ≡ kinds_of (lines text.now)) }
 {
     let mut done = Vec::new(alloc);
     let mut around = None;
-    for line in text.lines() {
-        let text = without_crs(line);
-        let kind = kind_in(alloc, around, text)?;
-        around = open_after(around, &kind);
-        done.push(Line { kind, text })?;
+    for piece in text.lines() {
+        let line = Line::of(alloc, around, piece)?;
+        around = line.open_after(around);
+        done.push(line)?;
     }
     Ok(done)
 }

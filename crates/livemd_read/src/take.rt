@@ -3,8 +3,8 @@ ghost use Rattle.std.specs.Prelude.{◌≡◌, ◌++◌, ◌∷◌, [], ℕ, tru
 ghost use Rattle.std.specs.String.{string_bytes};
 ghost use Rattle.livemd_lines.specs.Lines.{drop_end, is_blank, is_space_or_tab};
 ghost use Rattle.livemd_lines.specs.Kinds.{Opens, Heading1};
-ghost use Rattle.livemd_lines.specs.Views.{kind_view, line_view, lines_view};
-ghost use Rattle.livemd_format.specs.Items.{at_setup, cut, cut_by, cut_metadata, is_closing_kind, is_code, is_force, is_inside, items, may_stand, one_line, output_at};
+ghost use Rattle.livemd_lines.specs.Views.{kind_view, line_view};
+ghost use Rattle.livemd_format.specs.Items.{at_setup, cut, cut_by, cut_metadata, is_closing_kind, is_code, is_force, is_inside, may_stand, one_line, output_at};
 ghost use Rattle.livemd_format.specs.Items as format;
 ghost use Rattle.livemd_format.specs.Reads.{items_of};
 ghost use Rattle.livemd_read.specs.Resume.{fenced_item, resume, BeginsText, Cuts, Takes};
@@ -13,7 +13,7 @@ ghost use Rattle.livemd_read.specs.Views.{IsDone, cut_of, item_of, views};
 use crate::done::Done;
 use crate::items::Item;
 use crate::open::{Content, Open, Passage, with_line};
-use livemd_lines::{Fence, Line, LineKind, Mark, Metadata, lines};
+use livemd_lines::{Fence, Line, LineKind, Mark, Metadata};
 use std::alloc::{AllocError, Global};
 
 /// Whether a byte is a space or a tab.
@@ -403,25 +403,20 @@ fn finish<'a>(alloc: Global, done: &mut Done<'a>, pending: Open<'a>) -> Result<(
     }
 }
 
-/// The items of lines.
-fn take_all<'a>(alloc: Global, lines: &[Line<'a>]) -> Result<Vec<Item<'a>>, AllocError>
-    ensures { IfOk result (λ is. views is.items ≡ items [] 1 0 (lines_view lines.now)) }
-{
-    let mut done = Done::new(alloc);
-    let mut pending = Open::Nothing;
-    let mut number: u64 = 1;
-    for line in lines {
-        pending = take(alloc, &mut done, pending, number, line)?;
-        number += 1;
-    }
-    finish(alloc, &mut done, pending)?;
-    Ok(done.items)
-}
-
 /// The items of a text. Branch lines and stamps stay as they are.
 pub(crate) fn read_items(alloc: Global, text: &str) -> Result<Vec<Item<'_>>, AllocError>
     ensures { IfOk result (λ is. views is.items ≡ items_of text.now) }
 {
-    let lines = lines(alloc, text)?;
-    take_all(alloc, &lines)
+    let mut done = Done::new(alloc);
+    let mut pending = Open::Nothing;
+    let mut around = None;
+    let mut number: u64 = 1;
+    for piece in text.lines() {
+        let line = Line::of(alloc, around, piece)?;
+        around = line.open_after(around);
+        pending = take(alloc, &mut done, pending, number, &line)?;
+        number += 1;
+    }
+    finish(alloc, &mut done, pending)?;
+    Ok(done.items)
 }

@@ -10,8 +10,6 @@ use Rattle.notebook.specs.declared.parts.Parts.{Parts}
 use Rattle.livemd_lines.specs.declared.fences.Mark.TheVariants.{Backtick}
 use Rattle.livemd_lines.specs.Lines.{front_of, is_empty, is_lf, lines}
 use Rattle.livemd_lines.specs.Kinds.{Kinded, byte_of, is_byte, kinds_of, run}
-use Rattle.livemd_lines.specs.declared.kinds.Line.{Line}
-use Rattle.livemd_lines.specs.Views.{lines_view}
 use Rattle.livemd_lines.specs.Written.{fenced, longest_run, text_of_lines, ticks}
 use Rattle.livemd_format.specs.Tidy.{is_markdown, pieces}
 use Rattle.livemd_format.specs.Write.{Block, block_lines, blocks, branch_line, break_blocks, cell_blocks, code_blocks, fence_block, fence_len, force, forced_lines, kept_blocks, line_block, markdown_block, own_blocks, section_blocks, setup_blocks, text_of}
@@ -221,14 +219,10 @@ forced_turn all rest l a b whole e h p =
     ∙ (append_assoc a (text_of_lines (forced_lines (l ∷ []))) (text_of_lines (forced_lines rest))
     ∙ (ap (λ w. a ++ w) (sym (text_of_lines-append (forced_lines (l ∷ [])) (forced_lines rest)) ∙ ap text_of_lines (sym (forced-more l rest) ∙ ap forced_lines (sym e))) ∙ h))
 
-pub lines_last : (ls : List Line) (i : ℕ) (old a : List ℕ) (bs : List Kinded) → length ls ≤ i → a ++ text_of_lines (forced_lines (lines_view (drop i ls))) ≡ old ++ text_of_lines (forced_lines bs) → a ≡ old ++ text_of_lines (forced_lines bs)
-lines_last ls i old a bs all h =
-    let none : drop i ls ≡ [] = drop_of_length-le ls all in
-    sym (append-nil a) ∙ (ap (λ xs. a ++ text_of_lines (forced_lines (lines_view xs))) (sym none) ∙ h)
-
-pub markdown_put : (old a b source : List ℕ) (ls : List Kinded) → ls ≡ kinds_of (lines source) → a ≡ old ++ 10 ∷ [] → b ≡ a ++ text_of_lines (forced_lines ls) → Puts old (markdown_block source ∷ []) b
-markdown_put old a b source ls e f g =
-    puts_one old b (markdown_block source) (g ∙ (ap (λ w. w ++ text_of_lines (forced_lines ls)) f ∙ (append_assoc old (10 ∷ []) (text_of_lines (forced_lines ls)) ∙ ap (λ ks. old ++ 10 ∷ text_of_lines (forced_lines ks)) e)))
+pub markdown_put : (old a b source : List ℕ) → a ≡ old ++ 10 ∷ [] → b ≡ a ++ text_of_lines (forced_lines (kinds_of (lines source))) → Puts old (markdown_block source ∷ []) b
+markdown_put old a b source f g =
+    let ls : List Kinded = kinds_of (lines source) in
+    puts_one old b (markdown_block source) (g ∙ (ap (λ w. w ++ text_of_lines (forced_lines ls)) f ∙ append_assoc old (10 ∷ []) (text_of_lines (forced_lines ls))))
 
 -- ---- the whole text
 

@@ -1,4 +1,5 @@
 mod Blocks
+mod Cleaning
 mod Keeping
 mod Pieces
 mod Telling

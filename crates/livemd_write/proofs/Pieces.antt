@@ -1,18 +1,16 @@
 -- Lines cut, cleaned, joined and fed.
-use Rattle.std.proofs.Common.{◌≡◌, ℕ, ◌+◌, ◌-◌, ◌<◌, ◌≤◌, suc, zero, Bool, true, false, ◌||◌, cond, List, [], ◌∷◌, ◌++◌, Option, Some, None, length, take, get_or, map, refl, sym, ap, ◌∙◌, append_assoc, arith}
+use Rattle.std.proofs.Common.{◌≡◌, ℕ, ◌-◌, ◌<◌, ◌≤◌, suc, zero, Bool, true, false, ◌||◌, cond, List, [], ◌∷◌, ◌++◌, Option, Some, None, length, take, get_or, map, refl, sym, ap, ◌∙◌, append_assoc, arith}
 use Rattle.std.specs.Prelude.{◌==◌, IfOk, Result, Ok, Err, chars, encode_utf8_all}
 use Rattle.std.specs.Borrow.{Bor}
 use Rattle.std.specs.List.{AllByRecursion, flat_map, join_with_byte, onto_first, slice_split}
 use Rattle.std.proofs.lemmas.List.{append-nil, map-append}
 use Rattle.livemd_lines.specs.declared.fences.Fence.{Fence}
-use Rattle.livemd_lines.specs.Lines.{drop_end, drop_front, is_blank, is_cr, is_space, joined, lines}
-use Rattle.livemd_lines.specs.Kinds.{kinds_in, kind_in, open_after}
-use Rattle.livemd_lines.specs.Written.{IsLine, open_behind, text_of_lines}
-use Rattle.livemd_lines.proofs.Feeds.{lines-text_of_lines}
+use Rattle.livemd_lines.specs.Lines.{drop_end, drop_front, is_blank, is_cr, is_space, joined}
+use Rattle.livemd_lines.specs.Written.{IsLine, open_behind}
+use Rattle.livemd_lines.proofs.Feeds.{no_crs}
 use Rattle.livemd_format.specs.Tidy.{changed, clean, clean_pieces, closed, closing_lines, spaced, tidy_markdown, tidy_name, unblanked}
 use Rattle.livemd_format.proofs.Trimming.{all_end, all_front, drop_end-gone, drop_end-kept, lines_of_clean}
-use Rattle.livemd_write.specs.Texts.{closing_text, joined_by, left_open, space_for, texts}
-use Rattle.livemd_write.proofs.Blocks.{text_of_lines-append}
+use Rattle.livemd_write.specs.Texts.{closing_text, joined_by, space_for, texts}
 
 pub pieces_on : (ls ls2 xs : List (Bor (List ℕ))) (l x : Bor (List ℕ)) → texts ls ≡ map (drop_end is_cr) (texts xs) → ls2 ≡ ls ++ l ∷ [] → l.now ≡ drop_end is_cr x.now → texts ls2 ≡ map (drop_end is_cr) (texts (xs ++ x ∷ []))
 pieces_on ls ls2 xs l x h e s =
@@ -37,11 +35,6 @@ pub joined_by-byte : (c : ℕ) (ls : List (List ℕ)) → joined_by (c ∷ []) l
 joined_by-byte c [] = refl
 joined_by-byte c (x ∷ []) = refl
 joined_by-byte c (x ∷ y ∷ ls) = ap (λ w. x ++ c ∷ w) (joined_by-byte c (y ∷ ls))
-
--- what is open behind lines, by their kinds
-pub left_open-kinds : (around : Option Fence) (ls : List (List ℕ)) → left_open around (kinds_in around ls) ≡ open_behind around ls
-left_open-kinds around [] = refl
-left_open-kinds around (l ∷ ls) = left_open-kinds (open_after around (kind_in around l)) ls
 
 -- ---- spaces for marks
 
@@ -97,10 +90,10 @@ closed_text (l ∷ ls) (Some f) e = ap (λ w. w ++ closing_text (Some f)) (joine
   behind l [] = refl
   behind l (m ∷ ls) = append_assoc l (10 ∷ joined (m ∷ ls)) (closing_text (Some f)) ∙ ap (λ w. l ++ 10 ∷ w) (behind m ls)
 
-pub tidy_made : (t out new : List ℕ) (ls : List (List ℕ)) (fed : List ℕ) (o : Option Fence) → ls ≡ unblanked (clean_pieces t) → fed ≡ text_of_lines ls → o ≡ open_behind None (lines fed) → out ≡ joined_by (10 ∷ []) ls → new ≡ out ++ closing_text o → new ≡ tidy_markdown t
-tidy_made t out new ls fed o e f g h k =
+pub tidy_made : (t out new : List ℕ) (ls : List (List ℕ)) (o : Option Fence) → ls ≡ unblanked (clean_pieces t) → o ≡ open_behind None (map (drop_end is_cr) ls) → out ≡ joined_by (10 ∷ []) ls → new ≡ out ++ closing_text o → new ≡ tidy_markdown t
+tidy_made t out new ls o e g h k =
     let same : AllByRecursion IsLine ls = rw e (lines_unblanked t) in
-    let left : open_behind None ls ≡ o = sym (g ∙ ap (open_behind None) (ap lines f ∙ lines-text_of_lines ls same)) in
+    let left : open_behind None ls ≡ o = sym (g ∙ ap (open_behind None) (no_crs ls same)) in
     k ∙ (ap (λ w. w ++ closing_text o) h ∙ (closed_text ls o left ∙ (ap (λ (p : Option Fence). joined (ls ++ closing_lines p)) (sym left) ∙ ap (λ ms. joined (closed ms)) e)))
 
 -- ---- what the calls give, one after the other
@@ -145,16 +138,6 @@ lines_end ls (suc n) d within stops h =
 
 pub text_made : (f : List ℕ → List ℕ) (t b : List ℕ) → b ≡ f (encode_utf8_all t) → (x : List ℕ) → x ≡ chars b → x ≡ changed f t
 text_made f t b e x h = h ∙ ap chars e
-
-pub fed_on : (ls : List (Bor (List ℕ))) (i : ℕ) (d : Bor (List ℕ)) (a b c : List ℕ) → i < length ls → a ≡ text_of_lines (texts (take i ls)) → b ≡ a ++ (get_or ls i d).now → c ≡ b ++ 10 ∷ [] → c ≡ text_of_lines (texts (take (i + 1) ls))
-fed_on ls i d a b c lt e f g =
-    let n : i + 1 ≡ suc i = omega arith in
-    let x : List ℕ = (get_or ls i d).now in
-    g
-    ∙ (ap (λ w. w ++ 10 ∷ []) (f ∙ ap (λ w. w ++ x) e)
-    ∙ (append_assoc (text_of_lines (texts (take i ls))) x (10 ∷ [])
-    ∙ (sym (text_of_lines-append (texts (take i ls)) (x ∷ []))
-    ∙ (ap text_of_lines (sym (texts_more ls i d lt)) ∙ ap (λ k. text_of_lines (texts (take k ls))) (sym n)))))
 
 -- where no line is left, none stays
 pub ends_at : (ls : List (Bor (List ℕ))) (n : ℕ) → n ≤ 0 → drop_end is_blank (texts (take n ls)) ≡ drop_end is_blank (texts ls) → texts (take n ls) ≡ drop_end is_blank (texts ls)

@@ -2,7 +2,7 @@
 use Rattle.std.specs.Prelude.{ℕ, ◌==◌, if◌then◌else◌, List, [], ◌∷◌, ◌++◌, map, Option, Some, None, replicate}
 use Rattle.std.specs.Borrow.{Bor}
 use Rattle.livemd_lines.specs.declared.fences.Fence.{Fence}
-use Rattle.livemd_lines.specs.Kinds.{Kinded, byte_of, open_after}
+use Rattle.livemd_lines.specs.Kinds.{byte_of}
 
 -- what references show
 abbrev pub texts : List (Bor (List ℕ)) → List (List ℕ)
@@ -17,11 +17,6 @@ joined_by between (x ∷ y ∷ more) = x ++ (between ++ joined_by between (y ∷
 -- a space in place of a byte
 abbrev pub space_for : ℕ → ℕ → ℕ
 space_for mark b = if b == mark then 32 else b
-
--- the fence that is open behind kinded lines, where this one is open before them
-abbrev pub left_open : Option Fence → List Kinded → Option Fence
-left_open around [] = around
-left_open around (l ∷ ls) = left_open (open_after around l.kind) ls
 
 -- what is put behind a text to close the fence that is open
 abbrev pub closing_text : Option Fence → List ℕ

@@ -1,8 +1,9 @@
 //! The blocks of a notebook, put one behind the other, each behind an empty line.
 ghost use Rattle.std.specs.Prelude.{◌≡◌, ◌&&◌, ◌<◌, ◌≤◌, ◌++◌, ◌∷◌, [], false, encode_utf8_all, OnOk, string_bytes};
 ghost use Rattle.std.specs.List.{flat_map};
-ghost use Rattle.livemd_lines.specs.Lines.{is_empty};
-ghost use Rattle.livemd_lines.specs.Views.{kind_view, line_view, lines_view};
+ghost use Rattle.livemd_lines.specs.Lines.{is_empty, lines};
+ghost use Rattle.livemd_lines.specs.Kinds.{kinds_of};
+ghost use Rattle.livemd_lines.specs.Views.{kind_view, line_view};
 ghost use Rattle.livemd_lines.specs.Written.{text_of_lines};
 ghost use Rattle.livemd_format.specs.Items.{is_code};
 ghost use Rattle.livemd_format.specs.Tidy.{is_markdown, number_from};
@@ -12,7 +13,7 @@ ghost use Rattle.livemd_write.specs.Pages.{Puts};
 use crate::cells::is_markdown;
 use crate::fences::push_fence;
 use itoa::Buffer;
-use livemd_lines::{Fence, Line, LineKind, Mark, lines};
+use livemd_lines::{Fence, Line, LineKind, Mark};
 use notebook::{Cell, Parts, Saved, Section, SectionId};
 use std::alloc::{AllocError, Global};
 use utf16_text::Text;
@@ -127,11 +128,14 @@ fn push_forced(out: &mut String, line: &Line<'_>) -> Result<(), AllocError>
 }
 
 /// Puts the lines of Markdown text.
-fn push_lines(out: &mut String, lines: &[Line<'_>]) -> Result<(), AllocError>
-    ensures ok { OnOk result (string_bytes out.new ≡ string_bytes out.old ++ text_of_lines (forced_lines (lines_view lines.now))) }
+fn push_lines(alloc: Global, out: &mut String, source: &str) -> Result<(), AllocError>
+    ensures ok { OnOk result (string_bytes out.new ≡ string_bytes out.old ++ text_of_lines (forced_lines (kinds_of (lines source.now)))) }
 {
-    for line in lines {
-        push_forced(out, line)?;
+    let mut around = None;
+    for piece in source.lines() {
+        let line = Line::of(alloc, around, piece)?;
+        around = line.open_after(around);
+        push_forced(out, &line)?;
     }
     Ok(())
 }
@@ -140,9 +144,8 @@ fn push_lines(out: &mut String, lines: &[Line<'_>]) -> Result<(), AllocError>
 fn push_markdown(alloc: Global, out: &mut String, source: &str) -> Result<(), AllocError>
     ensures ok { OnOk result (Puts (string_bytes out.old) (markdown_block source.now ∷ []) (string_bytes out.new)) }
 {
-    let lines = lines(alloc, source)?;
     out.push_str("\n")?;
-    push_lines(out, &lines)?;
+    push_lines(alloc, out, source)?;
     Ok(())
 }
 

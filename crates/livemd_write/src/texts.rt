@@ -1,16 +1,15 @@
 //! The tidy form of texts.
 ghost use Rattle.std.specs.Prelude.{◌≡◌, ◌==◌, ◌++◌, ◌∷◌, [], ◌<◌, ℕ, None, map, replicate, IfOk, OnOk};
-ghost use Rattle.std.specs.List.{flat_map, slice_split};
+ghost use Rattle.std.specs.List.{flat_map, list_any, slice_split};
 ghost use Rattle.std.specs.String.{string_bytes};
 ghost use Rattle.utf16_text.specs.Units.{AreScalars};
-ghost use Rattle.livemd_lines.specs.Lines.{drop_end, drop_front, is_blank, is_cr, is_space, joined, lines};
-ghost use Rattle.livemd_lines.specs.Kinds.{byte_of, open_after};
-ghost use Rattle.livemd_lines.specs.Views.{kind_view, lines_view};
-ghost use Rattle.livemd_lines.specs.Written.{open_behind, text_of_lines};
+ghost use Rattle.livemd_lines.specs.Lines.{drop_end, drop_front, is_blank, is_cr, is_space, joined};
+ghost use Rattle.livemd_lines.specs.Kinds.{byte_of};
+ghost use Rattle.livemd_lines.specs.Written.{open_behind};
 ghost use Rattle.livemd_format.specs.Tidy.{changed, clean, clean_pieces, tidy_markdown, tidy_name, unblanked};
-ghost use Rattle.livemd_write.specs.Texts.{closing_text, joined_by, left_open, space_for, texts};
+ghost use Rattle.livemd_write.specs.Texts.{closing_text, joined_by, space_for, texts};
 
-use livemd_lines::{Fence, Line, LineKind, Mark, lines};
+use livemd_lines::{Fence, Line, Mark};
 use std::alloc::{AllocError, Global};
 use utf16_text::Text;
 
@@ -82,18 +81,6 @@ fn joined(alloc: Global, between: &str, lines: &[&str]) -> Result<String, AllocE
     Ok(out)
 }
 
-/// The lines with a line feed behind each.
-fn fed(alloc: Global, lines: &[&str]) -> Result<String, AllocError>
-    ensures { IfOk result (λ s. string_bytes s ≡ text_of_lines (texts lines.now)) }
-{
-    let mut out = String::new(alloc);
-    for line in lines {
-        out.push_str(line)?;
-        out.push_str("\n")?;
-    }
-    Ok(out)
-}
-
 /// The text without the carriage returns that stand before a line feed or at its end.
 pub(crate) fn clean(alloc: Global, text: &str) -> Result<String, AllocError>
     ensures { IfOk result (λ s. string_bytes s ≡ clean text.now) }
@@ -133,34 +120,16 @@ fn without_end_blanks<'a, 'b>(lines: &'b [&'a str]) -> &'b [&'a str]
     &lines[..end]
 }
 
-/// The fence that is open behind a line of the kind, where this one is open before it.
-fn open_after(around: Option<Fence>, kind: &LineKind<'_>) -> Option<Fence>
-    ensures { result ≡ open_after around (kind_view kind.now) }
-{
-    match kind {
-        LineKind::Opens { fence, info: _ } => Some(*fence),
-        LineKind::Closes => None,
-        _ => around,
-    }
-}
-
 /// The fence that is open behind lines.
-fn left_open(lines: &[Line<'_>]) -> Option<Fence>
-    ensures { result ≡ left_open None (lines_view lines.now) }
+fn left_open(alloc: Global, lines: &[&str]) -> Result<Option<Fence>, AllocError>
+    ensures { IfOk result (λ o. o ≡ open_behind None (map (drop_end is_cr) (texts lines.now))) }
 {
     let mut around = None;
-    for line in lines {
-        around = open_after(around, &line.kind);
+    for piece in lines {
+        let line = Line::of(alloc, around, piece)?;
+        around = line.open_after(around);
     }
-    around
-}
-
-/// The fence that is open at the end of a text.
-fn open_at_end(alloc: Global, text: &str) -> Result<Option<Fence>, AllocError>
-    ensures { IfOk result (λ o. o ≡ open_behind None (lines text.now)) }
-{
-    let lines = lines(alloc, text)?;
-    Ok(left_open(&lines))
+    Ok(around)
 }
 
 /// The mark of a fence, as a text.
@@ -202,8 +171,7 @@ pub(crate) fn tidy_markdown(alloc: Global, text: &str) -> Result<String, AllocEr
 {
     let pieces = clean_pieces(alloc, text)?;
     let lines = without_end_blanks(without_front_blanks(&pieces));
-    let read = fed(alloc, lines)?;
-    let left = open_at_end(alloc, read.as_str())?;
+    let left = left_open(alloc, lines)?;
     let mut out = joined(alloc, "\n", lines)?;
     close(&mut out, left)?;
     Ok(out)
@@ -220,11 +188,30 @@ pub(crate) fn tidy_name(alloc: Global, text: &Text) -> Result<Text, AllocError>
     Text::of(alloc, trim_spaces(text.as_str()))
 }
 
-/// A text without the carriage returns that stand before a line feed or at its end.
-pub(crate) fn clean_text(alloc: Global, text: &Text) -> Result<Text, AllocError>
+/// Whether a text has a carriage return.
+fn has_crs(text: &str) -> bool
+    ensures { result ≡ list_any is_cr text.now }
+{
+    text.as_bytes().contains(&b'\r')
+}
+
+/// What [`clean_text`] gives, of a text that is cut and put together again.
+fn cleaned(alloc: Global, text: &Text) -> Result<Text, AllocError>
     ensures tidy { IfOk result (λ t. t ≡ changed clean text.now) }
     ensures characters { AreScalars text.now }
 {
     let text = clean(alloc, text.as_str())?;
     Text::of(alloc, text.as_str())
+}
+
+/// A text without the carriage returns that stand before a line feed or at its end.
+pub(crate) fn clean_text(alloc: Global, text: &Text) -> Result<Text, AllocError>
+    ensures tidy { IfOk result (λ t. t ≡ changed clean text.now) }
+    ensures characters { AreScalars text.now }
+{
+    if has_crs(text.as_str()) {
+        cleaned(alloc, text)
+    } else {
+        text.copy()
+    }
 }

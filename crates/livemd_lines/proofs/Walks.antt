@@ -1,16 +1,14 @@
--- The loop over the lines of a text.
+-- A walk over the pieces of a text, each of which is a line.
 use Rattle.std.proofs.Common.{◌≡◌, ℕ, ◌+◌, ◌-◌, ◌<◌, Bool, true, false, cond, List, [], ◌∷◌, ◌++◌, Option, None, length, take, get_or, map, refl, sym, ap, ◌∙◌, arith, suc, append_assoc}
 use Rattle.std.specs.Borrow.{Bor}
 use Rattle.std.specs.Prelude.{◌==◌, slice_index}
 use Rattle.std.specs.List.{slice_split}
 use Rattle.std.specs.Str.Lines as str
 use Rattle.std.proofs.lemmas.Bool.Decides.{nat_tests}
-use Rattle.std.proofs.lemmas.List.{append-nil, map-append, take_more, take_all}
+use Rattle.std.proofs.lemmas.List.{append-nil, take_more, take_all}
 use Rattle.livemd_lines.specs.declared.fences.Fence.{Fence}
-use Rattle.livemd_lines.specs.declared.kinds.Line.{Line}
 use Rattle.livemd_lines.specs.Lines.{drop_end, is_cr, is_lf, without_empty_last, lines}
-use Rattle.livemd_lines.specs.Kinds.{Kind, kind_in, kinds_in, kinds_of, open_after}
-use Rattle.livemd_lines.specs.Views.{kind_view, line_view, lines_view}
+use Rattle.livemd_lines.specs.Kinds.{Kinded, kind_in, kinded, kinds_in, kinds_of, open_after}
 use Rattle.livemd_lines.proofs.Trims.{drop_end-gone}
 
 is_cr_byte : (c : ℕ) → (c == 13) ≡ true → c ≡ 13
@@ -57,25 +55,29 @@ rest_turn all xs x rest e = e ∙ (ap (λ w. w ++ rest) (texts-push xs x) ∙ ap
 rest_end : (all : List (List ℕ)) (xs : List (Bor (List ℕ))) → texts xs ≡ all → all ≡ texts xs ++ []
 rest_end all xs e = sym (append-nil (texts xs) ∙ e)
 
--- the lines done and those of any rest are all
-abbrev pub Goes : List ℕ → List (Bor (List ℕ)) → List Line → Option Fence → Type 0
-Goes text xs done around = (rest : List (List ℕ)) → str.lines text ≡ texts xs ++ rest → lines_view done ++ kinds_in around (map (drop_end is_cr) rest) ≡ kinds_of (lines text)
+-- ---- a walk
 
-pub goes_first : (text : List ℕ) → Goes text [] [] None
-goes_first text = λ rest e. ap kinds_of (ap (map (drop_end is_cr)) (sym e) ∙ std_lines text)
+-- what the lines that are left give, whatever they are, is the whole
+abbrev pub Leaves : {R : Type 0} → List ℕ → List (Bor (List ℕ)) → Option Fence → (List Kinded → R) → R → Type 0
+Leaves text xs around f whole = (rest : List (List ℕ)) → str.lines text ≡ texts xs ++ rest → f (kinds_in around (map (drop_end is_cr) rest)) ≡ whole
+
+-- before the first piece all are left
+pub leaves_first : {R : Type 0} (text : List ℕ) (f : List Kinded → R) → Leaves text [] None f (f (kinds_of (lines text)))
+leaves_first text f = λ rest e. ap (λ ls. f (kinds_of ls)) (ap (map (drop_end is_cr)) (sym e) ∙ std_lines text)
 
 -- one line in front of the others
-in_front : (kind : Kind) (seen line : List ℕ) (around after : Option Fence) (ls : List (List ℕ)) → seen ≡ line → kind ≡ kind_in around seen → after ≡ open_after around kind → record { kind = kind; text = seen } ∷ kinds_in after ls ≡ kinds_in around (line ∷ ls)
-in_front kind seen line around after ls s k a = rw (a, k, s) refl
+in_front : (l : Kinded) (line : List ℕ) (around after : Option Fence) (ls : List (List ℕ)) → l ≡ kinded around line → after ≡ open_after around l.kind → l ∷ kinds_in after ls ≡ kinds_in around (line ∷ ls)
+in_front l line around after ls k a =
+    ap (λ (o : Option Fence). l ∷ kinds_in o ls) (a ∙ ap (λ (m : Kinded). open_after around m.kind) k)
+    ∙ ap (λ (m : Kinded). m ∷ kinds_in (open_after around (kind_in around line)) ls) k
 
-pub goes_on : (text : List ℕ) (xs : List (Bor (List ℕ))) (x : Bor (List ℕ)) (done : List Line) (l : Line) (around after : Option Fence) → Goes text xs done around → l.text.now ≡ drop_end is_cr x.now → kind_view l.kind ≡ kind_in around l.text.now → after ≡ open_after around (kind_view l.kind)
-    → Goes text (xs ++ x ∷ []) (done ++ l ∷ []) after
-goes_on text xs x done l around after h s k a = λ rest e.
+-- a turn, after which g of the lines that are left gives what f of them and the line gave
+pub leaves_on : {R : Type 0} (text : List ℕ) (xs : List (Bor (List ℕ))) (x : Bor (List ℕ)) (l : Kinded) (around after : Option Fence) (f g : List Kinded → R) (whole : R) → Leaves text xs around f whole → l ≡ kinded around (drop_end is_cr x.now) → after ≡ open_after around l.kind
+    → ((ls : List Kinded) → g ls ≡ f (l ∷ ls)) → Leaves text (xs ++ x ∷ []) after g whole
+leaves_on text xs x l around after f g whole h k a s = λ rest e.
     let ls : List (List ℕ) = map (drop_end is_cr) rest in
-    ap (λ w. w ++ kinds_in after ls) (map-append line_view done (l ∷ []))
-    ∙ (append_assoc (lines_view done) (line_view l ∷ []) (kinds_in after ls)
-    ∙ (ap (λ w. lines_view done ++ w) (in_front (kind_view l.kind) l.text.now (drop_end is_cr x.now) around after ls s k a)
-    ∙ h (x.now ∷ rest) (rest_turn (str.lines text) xs x rest e)))
+    s (kinds_in after ls) ∙ (ap f (in_front l (drop_end is_cr x.now) around after ls k a) ∙ h (x.now ∷ rest) (rest_turn (str.lines text) xs x rest e))
 
-pub goes_last : (text : List ℕ) (xs : List (Bor (List ℕ))) (done : List Line) (around : Option Fence) → Goes text xs done around → texts xs ≡ str.lines text → lines_view done ≡ kinds_of (lines text)
-goes_last text xs done around h all = sym (append-nil (lines_view done)) ∙ h [] (rest_end _ _ all)
+-- after the last piece none is left
+pub leaves_last : {R : Type 0} (text : List ℕ) (xs : List (Bor (List ℕ))) (around : Option Fence) (f : List Kinded → R) (whole : R) → Leaves text xs around f whole → texts xs ≡ str.lines text → f [] ≡ whole
+leaves_last text xs around f whole h all = h [] (rest_end _ _ all)
