@@ -1,14 +1,21 @@
 //! The gate that each evaluation passes.
 
+/// The number of a cell, plain: 0 is the setup cell.
+pub type CellNo = u64;
+
+/// The number of a lane, plain: 0 is the main lane, any other the branch of the section with that
+/// number.
+pub type LaneNo = u64;
+
 /// Which evaluation arrives or leaves.
 #[derive(Clone, Copy, Debug, PartialEq, Eq)]
 pub struct JobTag {
     /// The evaluation's number.
     pub eval: u64,
-    /// The number of its cell.
-    pub cell: u64,
-    /// Its lane: 0 for the main lane, else the number of the branch's section.
-    pub lane: u64,
+    /// Its cell.
+    pub cell: CellNo,
+    /// Its lane.
+    pub lane: LaneNo,
 }
 
 /// What is told of each evaluation before it begins and after it ends. Several threads may call it

@@ -11,7 +11,7 @@ mod host;
 mod memory;
 mod outside;
 
-pub use gate::{Gate, JobTag, PlainGate};
+pub use gate::{CellNo, Gate, JobTag, LaneNo, PlainGate};
 pub use host::{HostShelf, HostSink};
 pub use memory::{MemoryShelf, MemorySink, NoFaultSink};
 pub use outside::{Shelf, ShelfError, Sink, SinkError};

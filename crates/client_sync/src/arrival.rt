@@ -2,7 +2,6 @@
 ghost use Rattle.std.specs.Prelude.{◌≡◌, Some, None, IfOk, MatchOption};
 ghost use Rattle.client_sync.specs.Arrivals.{accepted_change, arriving, arriving_in};
 
-use crate::changes::change_of;
 use delta::Delta;
 use notebook::{CellId, Change};
 use session_ops::{Call, Entry, Op, Reply};
@@ -45,7 +44,7 @@ pub(crate) fn accepted_change(entry: &Entry) -> Result<Option<Change>, AllocErro
 {
     match (&entry.call, &entry.reply) {
         (Call::Client { .. }, Reply::Refused(_)) => Ok(None),
-        (Call::Client { op, .. }, _) => change_of(op),
+        (Call::Client { op, .. }, _) => op.change(),
         _ => Ok(None),
     }
 }

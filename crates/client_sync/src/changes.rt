@@ -1,4 +1,4 @@
-//! The change of the notebook that an operation asks for, and the cells that it takes away.
+//! The cells that a change of the notebook takes away.
 ghost use Rattle.std.specs.Prelude.{◌≡◌, ℕ, List, IfOk, map};
 ghost use Rattle.notebook.specs.declared.parts.Cell.{Cell};
 ghost use Rattle.notebook.specs.Book.{resourced};
@@ -7,71 +7,9 @@ ghost use Rattle.notebook.specs.declared.change.Changed.{Changed};
 ghost use Rattle.notebook.specs.Change.{Makes, change, cells_in};
 ghost use Rattle.notebook.specs.Living.{gone_cells};
 ghost use Rattle.notebook.specs.Rules.{cell_number};
-ghost use Rattle.session_ops.specs.Structure.{change_of};
 
 use notebook::{Cell, CellId, Change, Notebook, Section, SectionId};
-use session_ops::Op;
 use std::alloc::{AllocError, Global};
-
-/// The change that an operation asks for, if it asks for one.
-pub(crate) fn change_of(op: &Op) -> Result<Option<Change>, AllocError>
-    ensures { IfOk result (λ asked. asked ≡ change_of op.now) }
-{
-    Ok(match op {
-        Op::SetName { name } => Some(Change::SetName { name: name.copy()? }),
-        Op::InsertSection { index, name } => Some(Change::InsertSection {
-            index: *index,
-            name: name.copy()?,
-        }),
-        Op::SetSectionName { section, name } => Some(Change::SetSectionName {
-            section: *section,
-            name: name.copy()?,
-        }),
-        Op::DeleteSection { section } => Some(Change::DeleteSection { section: *section }),
-        Op::MoveSection { section, index } => Some(Change::MoveSection {
-            section: *section,
-            index: *index,
-        }),
-        Op::SetParent { section, parent } => Some(Change::SetParent {
-            section: *section,
-            parent: *parent,
-        }),
-        Op::InsertCell {
-            section,
-            index,
-            kind,
-        } => Some(Change::InsertCell {
-            section: *section,
-            index: *index,
-            kind: *kind,
-        }),
-        Op::DeleteCell { cell } => Some(Change::DeleteCell { cell: *cell }),
-        Op::RestoreCell {
-            cell,
-            section,
-            index,
-        } => Some(Change::RestoreCell {
-            cell: *cell,
-            section: *section,
-            index: *index,
-        }),
-        Op::MoveCell {
-            cell,
-            section,
-            index,
-        } => Some(Change::MoveCell {
-            cell: *cell,
-            section: *section,
-            index: *index,
-        }),
-        Op::Join
-        | Op::Leave
-        | Op::Delta { .. }
-        | Op::Report { .. }
-        | Op::Queue { .. }
-        | Op::Cancel { .. } => None,
-    })
-}
 
 /// The numbers of the live cells that a change takes away, which is made of the notebook or of the
 /// one with other sources.

@@ -48,7 +48,7 @@ pub fn have_room(a: &Delta, b: &Delta) -> bool
 }
 
 /// First `a` and then `b`, as one delta. A half of a pair that is left without its other half is left
-/// out.
+/// out. Both must [have room](have_room).
 pub fn compose(alloc: Global, a: &Delta, b: &Delta) -> Result<Delta, AllocError>
     requires { HaveRoom a.now b.now }
     ensures { IfOk result (λ delta. delta ≡ composed a.now b.now) }
@@ -60,7 +60,7 @@ pub fn compose(alloc: Global, a: &Delta, b: &Delta) -> Result<Delta, AllocError>
 }
 
 /// `right` as it goes after `left`. Where both put something in at one place, that of the side
-/// `first` comes first.
+/// `first` comes first. Both must [have room](have_room).
 pub fn transform(
     alloc: Global,
     left: &Delta,

@@ -4,7 +4,8 @@ use Rattle.book_outside.specs.Outside.{Rose, GivesFront}
 use Rattle.livemd_read.specs.declared.types.Read.{Read}
 use Rattle.livemd_read.specs.declared.types.BookError.{BookError}
 use Rattle.livemd_read.specs.declared.types.BookError.TheVariants.{OutOfMemory as BookMemory}
-use Rattle.livemd_read.specs.Causes.{IsAccepted, IsBookCause}
+use Rattle.livemd_format.specs.Accepts.{IsAccepted}
+use Rattle.livemd_read.specs.Causes.{IsBookCause}
 use Rattle.livemd_read.proofs.Causes.{accepted_cause}
 use Rattle.script.specs.declared.content.Content.{Content}
 use Rattle.driver.specs.declared.outcome.Report.{Report}
@@ -14,7 +15,8 @@ use Rattle.driver.specs.declared.play.Played.{Played}
 use Rattle.driver.specs.declared.play.Played.TheVariants.{Done, SinkFailed as PlayCut, OutOfMemory as PlayMemory}
 use Rattle.driver.specs.Ends.{IsPlayedSo}
 use Rattle.driver.specs.Lines.{notice_line}
-use Rattle.driver.specs.Program.{IsPlay, IsFormat, NamesBook, IsAnswer, IsFormatAnswer, BookIsAccepted, ScriptIsAccepted, format_words}
+use Rattle.script.proofs.Fronts.{cause-none}
+use Rattle.driver.specs.Program.{IsPlay, IsFormat, NamesBook, IsAnswer, IsFormatAnswer, IsComplete, AreAcceptable, BookIsAccepted, ScriptIsAccepted, format_words}
 use Rattle.driver.specs.Answers.{IsBookAnswer, IsScriptAnswer, IsWriting, HasReadBook, outcome_of}
 
 pub rose-later : (old mid new : ℕ) → old ≤ mid → Rose mid new → Rose old new
@@ -60,7 +62,7 @@ play-answered words held script r content sf sf' kf kf' w w' (Done report) b h p
     inl (record { accepted = accepted; told = report; report = refl; text = p.text; played = rw (b.notices, b.notebook) p.played; written = p.written })
 play-answered words held script r content sf sf' kf kf' w w' (PlayCut report) b h p =
     let accepted : ScriptIsAccepted words held = record { read = record { accepted = b.accepted; script = script; form = b.form; bytes = h.0; front = h.1.0 }; content = content; is = h.1.1 } in
-    inl (record { accepted = accepted; rose = p.rose; told = report; report = refl; history = rw b.notebook p.history })
+    inl (record { accepted = accepted; rose = p.rose; told = report; report = refl; cut = rw (b.notices, b.notebook) p.cut })
 play-answered words held script r content sf sf' kf kf' w w' PlayMemory b h p = refl
 
 -- counts that rose later have risen
@@ -116,6 +118,28 @@ format-told held book sf sf' kf kf' w w' report (Some OutOfMemory) h = h
 
 pub format-answered : (words : List (List ℕ)) (held : Option (List (List ℕ × List ℕ))) (book : List ℕ) (sf sf' kf kf' : ℕ) (w w' : Option (List ℕ)) (report : Option Report) (fault : Option RunFault) → IsFormat words book → IsFormatAnswer book held sf sf' kf kf' w w' report fault → IsAnswer words held sf sf' kf kf' w w' report fault
 format-answered words held book sf sf' kf kf' w w' report fault form h = subst (λ ws. IsAnswer ws held sf sf' kf kf' w w' report fault) (sym form) (format-told held book sf sf' kf kf' w w' report fault h)
+
+-- words that name a book are in a form
+no-form : (words : List (List ℕ)) (book : List ℕ) → NamesBook words book → ((book script : List ℕ) → ¬ IsPlay words book script) → ((book : List ℕ) → ¬ IsFormat words book) → ⊥
+no-form words book (inl play) h k = h book play.0 play.1
+no-form words book (inr form) h k = k book form
+
+-- where nothing can be refused and no count rose, all was done
+pub complete : (words : List (List ℕ)) (held : Option (List (List ℕ × List ℕ))) (sf sf' kf kf' : ℕ) (w w' : Option (List ℕ)) (report : Option Report) (fault : Option RunFault) → IsAnswer words held sf sf' kf kf' w w' report fault → IsComplete words held sf sf' kf kf' fault
+complete words held sf sf' kf kf' w w' report None h good shelf sink = inl refl
+complete words held sf sf' kf kf' w w' report (Some Usage) h good shelf sink = absurd (no-form words good.form.0 good.form.1 h.0.no_play h.0.no_format)
+complete words held sf sf' kf kf' w w' report (Some BookUnread) h good shelf sink = absurd (shelf h.0.rose)
+complete words held sf sf' kf kf' w w' report (Some (BookRefused why)) h good shelf sink =
+    let r = h.0.read in
+    absurd (refused-not-accepted r.bytes why h.0.cause h.0.named (good.books r.book r.bytes r.named r.front))
+complete words held sf sf' kf kf' w w' report (Some ScriptUnread) h good shelf sink = absurd (shelf h.0.rose)
+complete words held sf sf' kf kf' w w' report (Some (ScriptRefused why)) h good shelf sink =
+    let r = h.0.read in
+    let is = good.scripts r.accepted.read.book r.script r.bytes r.form r.front in
+    absurd (cause-none r.bytes why h.0.cause h.0.named is.0 is.1)
+complete words held sf sf' kf kf' w w' report (Some SinkFailed) (inl x) good shelf sink = absurd (sink x.rose)
+complete words held sf sf' kf kf' w w' report (Some SinkFailed) (inr x) good shelf sink = absurd (sink x.rose)
+complete words held sf sf' kf kf' w w' report (Some OutOfMemory) h good shelf sink = inr refl
 
 -- a list of two
 pub two : {A B : Type 0} → (f : A → B) (d e : A) (xs : List A) → 2 ≤ length xs → length xs < 3 → map f xs ≡ f (get_or xs 0 d) ∷ f (get_or xs 1 e) ∷ []

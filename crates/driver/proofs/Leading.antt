@@ -26,6 +26,21 @@ lead-on g act mid step next a b c s x y z l d split =
       said = d.said ∙ (ap (λ w. w ++ d.piece) l.said ∙ append_assoc s.said l.piece d.piece);
     }
 
+-- a step behind what was done
+pub lead-then : (g : Game) (act step both : Stage → Option Stage) (a b c : Player) (s : Stage) (x y z : List ℕ) → (l : HasDone g act a b s x y) → HasDone g step b c l.stage y z → ((t : Stage) → both t ≡ or_none (act t) step) → HasDone g both a c s x z
+lead-then g act step both a b c s x y z l d split =
+    record {
+      stage = d.stage;
+      more = l.more ++ d.more;
+      grown = d.grown ∙ (ap (λ ts. ts ++ d.more) l.grown ∙ append_assoc (turns_of a) l.more d.more);
+      acts = λ rest. split (record s { turns = (l.more ++ d.more) ++ rest })
+          ∙ (ap (λ ts. or_none (act (record s { turns = ts })) step) (append_assoc l.more d.more rest) ∙ (ap (λ o. or_none o step) (l.acts (d.more ++ rest)) ∙ d.acts rest));
+      stands = d.stands;
+      piece = l.piece ++ d.piece;
+      printed = d.printed ∙ (ap (λ w. w ++ d.piece) l.printed ∙ append_assoc x l.piece d.piece);
+      said = d.said ∙ (ap (λ w. w ++ d.piece) l.said ∙ append_assoc s.said l.piece d.piece);
+    }
+
 -- the same under another name
 pub lead-as : (g : Game) (act other next : Stage → Option Stage) (a b : Player) (s : Stage) (x y : List ℕ) → Leads g act next a b s x y → ((ts : List Turn) → other (record s { turns = ts }) ≡ act (record s { turns = ts })) → Leads g other next a b s x y
 lead-as g act other next a b s x y l same =

@@ -2,12 +2,13 @@
 use Rattle.std.specs.Prelude.{◌≡◌, ◌≢◌, ℕ, List, Option, Some, None, Result, Ok, Err}
 use Rattle.book_outside.specs.Outside.{Rose, GivesFront, AppendsAll, AppendsFront}
 use Rattle.notebook.specs.declared.parts.Parts.{Parts}
+use Rattle.livemd_format.specs.Accepts.{IsAccepted}
 use Rattle.livemd_format.specs.Reads.{Reads}
 use Rattle.livemd_format.specs.Tidy.{tidied}
 use Rattle.livemd_format.specs.Write.{text_of}
 use Rattle.livemd_read.specs.declared.types.Read.{Read}
 use Rattle.livemd_read.specs.declared.types.BookError.TheVariants.{OutOfMemory as BookMemory}
-use Rattle.livemd_read.specs.Causes.{IsAccepted, IsBookCause}
+use Rattle.livemd_read.specs.Causes.{IsBookCause}
 use Rattle.script.specs.declared.content.Content.{Content}
 use Rattle.script.specs.declared.error.ScriptError.TheVariants.{OutOfMemory as ScriptMemory}
 use Rattle.script.specs.Script.{IsScriptOf, IsScriptCause}

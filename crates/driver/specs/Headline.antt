@@ -1,5 +1,6 @@
 -- What a run of a script says: it prints the transcript of one actual history.
-use Rattle.std.specs.Prelude.{◌≡◌, ℕ, ◌+◌, ◌<◌, ◌⊎◌, true, List, [], ◌∷◌, ◌++◌, length, map, take, Some}
+use Rattle.std.specs.Prelude.{◌≡◌, ℕ, ◌+◌, ◌<◌, ◌⊎◌, true, List, [], ◌∷◌, ◌++◌, length, map, take, Option, Some}
+use Rattle.book_outside.specs.Outside.{AppendsFront}
 use Rattle.delta.specs.declared.Step.{Step}
 use Rattle.delta.specs.Moves.{text_after}
 use Rattle.notebook.specs.declared.parts.Cell.{Cell}
@@ -15,14 +16,16 @@ use Rattle.notebook.specs.declared.states.Lane.{Lane}
 use Rattle.notebook.specs.Flow.{path}
 use Rattle.lanes.specs.declared.work.Finished.{Finished}
 use Rattle.lanes.specs.Work.{last_finished, is_evaluated}
-use Rattle.session_ops.specs.State.{State, Legal, state, first_source, taken_by, entries_by, ShowsAlong}
+use Rattle.session_ops.specs.State.{State, ChangesNothing, Legal, state, first_source, taken_by, entries_by, ShowsAlong}
 use Rattle.session_core.specs.Session.{entry_of, ready_lane}
 use Rattle.client_sync.specs.Client.{Client, held}
 use Rattle.world.specs.Waiting.{IsHonest, IsFairAnswer}
+use Rattle.transcript.specs.Texts.{as_text}
+use Rattle.script.specs.declared.line.ScriptLine.{ScriptLine}
 use Rattle.script.specs.declared.content.Content.{Content}
 use Rattle.driver.specs.Turns.{AreMarks}
 use Rattle.driver.specs.Player.{Stage, Sent}
-use Rattle.driver.specs.Transcript.{finished, transcript}
+use Rattle.driver.specs.Transcript.{stage_after, finished, transcript}
 
 -- calls that evaluators make
 abbrev pub IsEvaluation : Call → Type 0
@@ -104,14 +107,40 @@ pub record IsHistory (n0 : Parts) (workers : ℕ) (h : List Entry) (marks : List
   pub answered : AllAnswered h
   pub ready : TakeReadyLanes n0 1 [] h
 
--- a run that was played to its end: what is printed; the stage at the end, whose calls are the player's entries in order, each once (so each posted message has at most one entry); each message of a client fairly answered; its clients; each source, with each accepted delta in it once; and what each evaluated cell shows after each front of the history
-pub record IsPlayed (n0 : Parts) (notices : List (List ℕ)) (script : Content) (workers : ℕ) (h : List Entry) (marks : List ℕ) (text : List ℕ) : Type 0 where
+-- an answer that changes nothing, a late one of an evaluation or a refusal, leaves the state as it was before it
+abbrev pub LeaveStates : Parts → List Entry → Type 0
+LeaveStates n0 h = (before rest : List Entry) (by : ℕ) (call : Call) (answer : Reply) → h ≡ before ++ entry_of by call answer ∷ rest → ChangesNothing call answer → state n0 (before ++ entry_of by call answer ∷ []) ≡ state n0 before
+
+-- one actual history, and the stage to which it brought the play: the stage's calls are the player's entries in order, each once (so each posted message has at most one entry); each message of a client fairly answered; its clients; each source, with each accepted delta in it once; what each evaluated cell shows after each front of the history; and late answers and refusals change nothing
+pub record IsActual (n0 : Parts) (workers : ℕ) (h : List Entry) (marks : List ℕ) (s : Stage) : Type 0 where
   pub history : IsHistory n0 workers h marks
+  pub calls : s.asked ≡ map call_of (entries_by h 0)
+  pub fair : AllFair n0 s.sent
+  pub clients : AllClients n0 h s.clients
+  pub once : AllGrown (state n0 h)
+  pub evaluated : (k : ℕ) → AllShow (state n0 (take k h))
+  pub late : LeaveStates n0 h
+
+-- a run that was played to its end: the text is the transcript of one actual history
+pub record IsPlayed (n0 : Parts) (notices : List (List ℕ)) (script : Content) (workers : ℕ) (h : List Entry) (marks : List ℕ) (text : List ℕ) : Type 0 where
   pub printed : transcript n0 notices script h marks ≡ Some text
   pub stage : Stage
   pub played : finished n0 script h marks ≡ Some stage
-  pub calls : stage.asked ≡ map call_of (entries_by h 0)
-  pub fair : AllFair n0 stage.sent
-  pub clients : AllClients n0 h stage.clients
-  pub once : AllGrown (state n0 h)
-  pub evaluated : (k : ℕ) → AllShow (state n0 (take k h))
+  pub actual : IsActual n0 workers h marks stage
+
+-- a run that broke off: the text is that of the notices and of the script's first lines over one actual history, whose turns these lines use up
+pub record IsBrokenOff (n0 : Parts) (notices : List (List ℕ)) (script : Content) (workers : ℕ) (h : List Entry) (marks : List ℕ) (text : List ℕ) : Type 0 where
+  pub lines : List ScriptLine
+  pub others : List ScriptLine
+  pub first : script.lines ≡ lines ++ others
+  pub stage : Stage
+  pub played : stage_after n0 script lines h marks ≡ Some stage
+  pub used : stage.turns ≡ []
+  pub printed : text ≡ as_text notices ++ stage.said
+  pub actual : IsActual n0 workers h marks stage
+
+-- a run whose writing was cut off: a front was written of the text of one that was played to its end, or that broke off
+pub record IsCut (n0 : Parts) (notices : List (List ℕ)) (script : Content) (workers : ℕ) (h : List Entry) (marks : List ℕ) (before after : Option (List ℕ)) : Type 0 where
+  pub text : List ℕ
+  pub run : IsPlayed n0 notices script workers h marks text ⊎ IsBrokenOff n0 notices script workers h marks text
+  pub written : AppendsFront before text after

@@ -3,18 +3,19 @@ use Rattle.std.specs.Prelude.{◌≡◌, ◌≢◌, ℕ, ◌⊎◌, List, [], �
 use Rattle.book_outside.specs.Outside.{Rose, GivesFront, AppendsAll, AppendsFront}
 use Rattle.notebook.specs.declared.parts.Parts.{Parts}
 use Rattle.livemd_format.specs.declared.notices.Notice.{Notice}
+use Rattle.livemd_format.specs.Accepts.{IsAccepted}
 use Rattle.livemd_format.specs.Reads.{Reads}
 use Rattle.livemd_format.specs.Tidy.{tidied}
 use Rattle.livemd_format.specs.Write.{text_of}
 use Rattle.livemd_read.specs.declared.types.BookError.{BookError}
 use Rattle.livemd_read.specs.declared.types.BookError.TheVariants.{OutOfMemory as BookMemory}
-use Rattle.livemd_read.specs.Causes.{IsAccepted, IsBookCause}
+use Rattle.livemd_read.specs.Causes.{IsBookCause}
 use Rattle.script.specs.declared.content.Content.{Content}
 use Rattle.script.specs.declared.error.ScriptError.{ScriptError}
 use Rattle.script.specs.declared.error.ScriptError.TheVariants.{OutOfMemory as ScriptMemory}
 use Rattle.script.specs.Script.{IsScriptOf, IsScriptCause}
 use Rattle.driver.specs.Lines.{notice_line}
-use Rattle.driver.specs.Headline.{IsHistory, IsPlayed}
+use Rattle.driver.specs.Headline.{IsPlayed, IsCut}
 use Rattle.driver.specs.declared.outcome.Report.{Report}
 use Rattle.driver.specs.declared.outcome.RunFault.{RunFault}
 use Rattle.driver.specs.declared.outcome.RunFault.TheVariants.{Usage, BookUnread, BookRefused, ScriptUnread, ScriptRefused, SinkFailed, OutOfMemory}
@@ -88,7 +89,7 @@ pub record HasBadWords (words : List (List ℕ)) (before after : Option (List �
   pub no_format : (book : List ℕ) → ¬ IsFormat words book
   pub unwritten : IsUnwritten before after
 
--- status 2: the shelf failed at the book
+-- status 2: the words are in a form, and the shelf's count rose
 pub record HasUnreadBook (words : List (List ℕ)) (faults faults' : ℕ) (before after : Option (List ℕ)) : Type 0 where
   pub form : (book : List ℕ) × NamesBook words book
   pub rose : Rose faults faults'
@@ -101,7 +102,7 @@ pub record HasRefusedBook (words : List (List ℕ)) (held : Option (List (List �
   pub named : why ≢ BookMemory
   pub unwritten : IsUnwritten before after
 
--- status 4: the book was accepted, and the shelf failed at the script that is to be played
+-- status 4: the book was accepted, a script is to be played, and the shelf's count rose
 pub record HasUnreadScript (words : List (List ℕ)) (held : Option (List (List ℕ × List ℕ))) (faults faults' : ℕ) (before after : Option (List ℕ)) : Type 0 where
   pub accepted : BookIsAccepted words held
   pub form : (script : List ℕ) × IsPlay words accepted.read.book script
@@ -115,13 +116,13 @@ pub record HasRefusedScript (words : List (List ℕ)) (held : Option (List (List
   pub named : why ≢ ScriptMemory
   pub unwritten : IsUnwritten before after
 
--- status 6 of `play`: book and script were accepted, the sink failed, and the report is of one legal history
-pub record HasFailedSink (words : List (List ℕ)) (held : Option (List (List ℕ × List ℕ))) (faults faults' : ℕ) (given : Option Report) : Type 0 where
+-- status 6 of `play`: book and script were accepted, the sink failed, and it took just a front of what was played, whose history the report has
+pub record HasFailedSink (words : List (List ℕ)) (held : Option (List (List ℕ × List ℕ))) (faults faults' : ℕ) (given : Option Report) (before after : Option (List ℕ)) : Type 0 where
   pub accepted : ScriptIsAccepted words held
   pub rose : Rose faults faults'
   pub told : Report
   pub report : given ≡ Some told
-  pub history : IsHistory accepted.read.accepted.notebook 0 told.history told.marks
+  pub cut : IsCut accepted.read.accepted.notebook (map notice_line accepted.read.accepted.notices) accepted.content 0 told.history told.marks before after
 
 -- status 6 of `format`: the book was accepted, the sink failed, and it took just a front of the tidy notebook's text
 pub record HasCutBook (words : List (List ℕ)) (held : Option (List (List ℕ × List ℕ))) (faults faults' : ℕ) (given : Option Report) (before after : Option (List ℕ)) : Type 0 where
@@ -155,7 +156,7 @@ IsAnswer words held sf sf' kf kf' before after report (Some BookUnread) = HasUnr
 IsAnswer words held sf sf' kf kf' before after report (Some (BookRefused why)) = HasRefusedBook words held why before after × (report ≡ None)
 IsAnswer words held sf sf' kf kf' before after report (Some ScriptUnread) = HasUnreadScript words held sf sf' before after × (report ≡ None)
 IsAnswer words held sf sf' kf kf' before after report (Some (ScriptRefused why)) = HasRefusedScript words held why before after × (report ≡ None)
-IsAnswer words held sf sf' kf kf' before after report (Some SinkFailed) = HasFailedSink words held kf kf' report ⊎ HasCutBook words held kf kf' report before after
+IsAnswer words held sf sf' kf kf' before after report (Some SinkFailed) = HasFailedSink words held kf kf' report before after ⊎ HasCutBook words held kf kf' report before after
 IsAnswer words held sf sf' kf kf' before after report (Some OutOfMemory) = report ≡ None
 
 -- the same of a book that is formatted, by its name: 1, 4 and 5 are no status of it
@@ -168,3 +169,17 @@ IsFormatAnswer book held sf sf' kf kf' before after report (Some ScriptUnread) =
 IsFormatAnswer book held sf sf' kf kf' before after report (Some (ScriptRefused why)) = ⊥
 IsFormatAnswer book held sf sf' kf kf' before after report (Some SinkFailed) = HasCutBook (format_words book) held kf kf' report before after
 IsFormatAnswer book held sf sf' kf kf' before after report (Some OutOfMemory) = report ≡ None
+
+-- the words are in a form, and whatever the shelf gives of the files that they name is accepted, which says something where the shelf tells what it holds
+pub record AreAcceptable (words : List (List ℕ)) (held : Option (List (List ℕ × List ℕ))) : Type 0 where
+  pub form : (book : List ℕ) × NamesBook words book
+  pub books : (book bytes : List ℕ) → NamesBook words book → GivesFront held book most_bytes bytes → IsAccepted bytes
+  pub scripts : (book script bytes : List ℕ) → IsPlay words book script → GivesFront held script most_bytes bytes → (content : Content) × IsScriptOf bytes content
+
+-- all was done, but for want of memory
+abbrev pub IsDone : Option RunFault → Type 0
+IsDone fault = (fault ≡ None) ⊎ (fault ≡ Some OutOfMemory)
+
+-- where nothing can be refused and no count rose, all is done
+abbrev pub IsComplete : List (List ℕ) → Option (List (List ℕ × List ℕ)) → ℕ → ℕ → ℕ → ℕ → Option RunFault → Type 0
+IsComplete words held sf sf' kf kf' fault = AreAcceptable words held → ¬ Rose sf sf' → ¬ Rose kf kf' → IsDone fault

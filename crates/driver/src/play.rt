@@ -1,6 +1,6 @@
 //! Playing a script over a notebook, with what is printed written to a sink.
 ghost use Rattle.std.specs.Prelude.{◌≡◌, ℕ, ◌≤◌, [], List, map, OnOk, IfOk, OnErr, IsErrOf, string_bytes};
-ghost use Rattle.book_outside.specs.Outside.{Rose, AppendsAll};
+ghost use Rattle.book_outside.specs.Outside.{Rose, AppendsAll, AppendsFront};
 ghost use Rattle.notebook.specs.declared.parts.Parts.{Parts};
 ghost use Rattle.session_ops.specs.State.{state};
 ghost use Rattle.transcript.specs.Texts.{as_text};
@@ -8,10 +8,10 @@ ghost use Rattle.driver.specs.Lines.{notice_line};
 ghost use Rattle.driver.specs.Player.{Game, Stage};
 ghost use Rattle.driver.specs.Transcript.{end_lines};
 ghost use Rattle.session_core.specs.Session.{IsSession, history_of};
-ghost use Rattle.driver.specs.Headline.{IsHistory, IsPlayed};
+ghost use Rattle.driver.specs.Headline.{IsPlayed, IsCut};
 ghost use Rattle.driver.specs.Standing.{Stands, HasPlayed, entries_of};
-ghost use Rattle.driver.specs.Playing.{HavePlayed};
-ghost use Rattle.driver.specs.Ends.{IsPlayedSo, IsFresh, EndsWritten, HasEnded};
+ghost use Rattle.driver.specs.Playing.{HavePlayed, HaveBrokenOff};
+ghost use Rattle.driver.specs.Ends.{IsPlayedSo, IsFresh, EndsWritten, EndsCut, HasEnded};
 
 use crate::lines::push_notice;
 use crate::outcome::Report;
@@ -92,7 +92,7 @@ fn play_all<R: Wait, K: Sink>(
     sink: &mut K,
 ) -> Result<(), PlayFault>
     ensures played { (n0 : Parts) → IsFresh n0 player.old → OnOk result ((text : List ℕ) × (IsPlayed n0 (map notice_line notices.now) content.now 0 (entries_of player.new) player.new.marks text × AppendsAll (K.written sink.old) text (K.written sink.new))) }
-    ensures failed { (n0 : Parts) → IsFresh n0 player.old → IsErrOf result PlayFault.SinkFailed → IsHistory n0 0 (entries_of player.new) player.new.marks }
+    ensures failed { (n0 : Parts) → IsFresh n0 player.old → IsErrOf result PlayFault.SinkFailed → IsCut n0 (map notice_line notices.now) content.now 0 (entries_of player.new) player.new.marks (K.written sink.old) (K.written sink.new) }
     ensures counts { K.faults sink.old ≤ K.faults sink.new }
     ensures rose { IsErrOf result PlayFault.SinkFailed → Rose (K.faults sink.old) (K.faults sink.new) }
 {
@@ -105,6 +105,7 @@ fn play_all<R: Wait, K: Sink>(
 /// Writes the lines of the notices as one piece, if there are any.
 fn write_notices<K: Sink>(alloc: Global, notices: &[Notice], sink: &mut K) -> Result<(), PlayFault>
     ensures written { OnOk result (AppendsAll (K.written sink.old) (as_text (map notice_line notices.now)) (K.written sink.new)) }
+    ensures cut { IsErrOf result PlayFault.SinkFailed → AppendsFront (K.written sink.old) (as_text (map notice_line notices.now)) (K.written sink.new) }
     ensures counts { K.faults sink.old ≤ K.faults sink.new }
     ensures rose { IsErrOf result PlayFault.SinkFailed → Rose (K.faults sink.old) (K.faults sink.new) }
 {
@@ -133,7 +134,7 @@ fn play_script<R: Wait, K: Sink>(
     sink: &mut K,
 ) -> Result<(), PlayFault>
     ensures played { (n0 : Parts) → IsFresh n0 player.old → OnOk result ((text : List ℕ) × (IsPlayed n0 [] content.now 0 (entries_of player.new) player.new.marks text × AppendsAll (K.written sink.old) text (K.written sink.new))) }
-    ensures failed { (n0 : Parts) → IsFresh n0 player.old → IsErrOf result PlayFault.SinkFailed → IsHistory n0 0 (entries_of player.new) player.new.marks }
+    ensures failed { (n0 : Parts) → IsFresh n0 player.old → IsErrOf result PlayFault.SinkFailed → IsCut n0 [] content.now 0 (entries_of player.new) player.new.marks (K.written sink.old) (K.written sink.new) }
     ensures counts { K.faults sink.old ≤ K.faults sink.new }
     ensures rose { IsErrOf result PlayFault.SinkFailed → Rose (K.faults sink.old) (K.faults sink.new) }
 {
@@ -148,7 +149,7 @@ fn play_script<R: Wait, K: Sink>(
 /// Plays the end: it settles and leaves a mark.
 fn play_end<R: Wait, K: Sink>(rt: &R, player: &mut Player, sink: &mut K) -> Result<(), PlayFault>
     ensures played { (n0 : Parts) → IsSession n0 player.old.session → OnOk result (EndsWritten n0 player.old player.new (K.written sink.old) (K.written sink.new)) }
-    ensures failed { (n0 : Parts) → IsSession n0 player.old.session → IsErrOf result PlayFault.SinkFailed → HasEnded n0 player.old player.new }
+    ensures failed { (n0 : Parts) → IsSession n0 player.old.session → IsErrOf result PlayFault.SinkFailed → EndsCut n0 player.old player.new (K.written sink.old) (K.written sink.new) }
     ensures counts { K.faults sink.old ≤ K.faults sink.new }
     ensures rose { IsErrOf result PlayFault.SinkFailed → Rose (K.faults sink.old) (K.faults sink.new) }
 {
@@ -166,8 +167,8 @@ fn play_lines<R: Wait, K: Sink>(
     lines: &[ScriptLine],
     sink: &mut K,
 ) -> Result<(), PlayFault>
-    ensures played { (n0 : Parts) (s : Stage) → Stands (record { opening = n0; names = names.now }) player.old s → OnOk result (HavePlayed (record { opening = n0; names = names.now }) lines.now [] player.old player.new s (K.written sink.old) (K.written sink.new)) }
-    ensures failed { (n0 : Parts) (s : Stage) → Stands (record { opening = n0; names = names.now }) player.old s → IsErrOf result PlayFault.SinkFailed → IsHistory n0 0 (entries_of player.new) player.new.marks }
+    ensures played { (n0 : Parts) (s : Stage) → Stands (record { opening = n0; names = names.now }) player.old s → OnOk result (HavePlayed (record { opening = n0; names = names.now }) lines.now player.old player.new s (K.written sink.old) (K.written sink.new)) }
+    ensures failed { (n0 : Parts) (s : Stage) → Stands (record { opening = n0; names = names.now }) player.old s → IsErrOf result PlayFault.SinkFailed → HaveBrokenOff (record { opening = n0; names = names.now }) lines.now player.old player.new s (K.written sink.old) (K.written sink.new) }
     ensures counts { K.faults sink.old ≤ K.faults sink.new }
     ensures rose { IsErrOf result PlayFault.SinkFailed → Rose (K.faults sink.old) (K.faults sink.new) }
 {
@@ -226,6 +227,7 @@ fn end_of(player: &Player) -> Result<String, AllocError>
 /// Writes a piece, unless it is empty.
 fn write_piece<K: Sink>(sink: &mut K, piece: &str) -> Result<(), PlayFault>
     ensures written { OnOk result (AppendsAll (K.written sink.old) piece.now (K.written sink.new)) }
+    ensures cut { IsErrOf result PlayFault.SinkFailed → AppendsFront (K.written sink.old) piece.now (K.written sink.new) }
     ensures counts { K.faults sink.old ≤ K.faults sink.new }
     ensures rose { IsErrOf result PlayFault.SinkFailed → Rose (K.faults sink.old) (K.faults sink.new) }
 {

@@ -20,7 +20,7 @@ pub(crate) fn settle<R: Wait>(
     ensures { (n0 : Parts) → IsSession n0 session.old → OnOk result (HasSettled n0 by session.old session.new) }
 {
     for _ in rt.forever() {
-        if session.is_idle() {
+        if session.idle() {
             return Ok(());
         }
         evaluate(alloc, session, by)?;

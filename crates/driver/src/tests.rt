@@ -1,8 +1,10 @@
 //! Worked scripts, through the top call over a shelf and a sink in memory.
 use crate::{Outcome, RunFault, program};
 use book_outside::{MemoryShelf, MemorySink, PlainGate};
+use delta::Step;
 use livemd_read::BookError;
 use script::{LineFault, ScriptError};
+use session_ops::{Entry, Reply};
 use std::alloc::Global;
 use std::sync::Wait;
 use std::test::Fail;
@@ -247,6 +249,27 @@ fn several_clients_print(rt: HostRuntime) -> Result<(), Fail> {
     for case in &SEVERAL {
         assert!(rt; prints(&rt, rt.alloc(), case.0, case.1, case.2)?);
     }
+    Ok(())
+}
+
+/// Whether an entry made the revision 2 by putting `X` behind one unit.
+fn puts_an_x(entry: &Entry) -> bool {
+    let Reply::Applied { rev: 2, delta } = &entry.reply else {
+        return false;
+    };
+    match delta.to_compact() {
+        [Step::Retain(1), Step::Insert(text)] => text.as_str() == "X",
+        _ => false,
+    }
+}
+
+#[test]
+fn what_is_applied_is_the_delta_as_it_was_moved(rt: HostRuntime) -> Result<(), Fail> {
+    let (book, script, _) = SEVERAL[0];
+    let (outcome, _) = run(&rt, rt.alloc(), &["b", "s"], &[book, script], &[])?;
+    let report = outcome.report.ok_or("a report")?;
+    let fourth = report.history.as_slice().get(3);
+    assert!(rt; fourth.is_some_and(|entry| puts_an_x(entry)));
     Ok(())
 }
 

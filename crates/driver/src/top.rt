@@ -1,6 +1,6 @@
 //! The top call: words, shelf and sink in, the status out.
 ghost use Rattle.std.specs.Prelude.{◌≡◌, ◌≤◌, List, ℕ, Option, map, IfSome, MatchOption, string_bytes};
-ghost use Rattle.driver.specs.Program.{IsPlay, IsFormat, IsAnswer, IsFormatAnswer, status_of};
+ghost use Rattle.driver.specs.Program.{IsPlay, IsFormat, IsAnswer, IsFormatAnswer, IsComplete, status_of};
 ghost use Rattle.driver.specs.Answers.{BytesAreBook, BytesAreScript, IsBookAnswer, IsScriptAnswer, IsWriting, WordsAnswer, HasReadBook, outcome_of, ended_with};
 
 use crate::outcome::{Outcome, RunFault};
@@ -25,8 +25,9 @@ const MOST_BYTES: u64 = 8_388_609;
 /// each script line that prints is one, and so is the end. Code cells are evaluated on the caller's
 /// thread; the gate isn't used yet.
 ///
-/// At the statuses 1 to 5 nothing is written. At status 6 of `play` the report is of the history so
-/// far.
+/// At the statuses 1 to 5 nothing is written. At status 6 of `play` a front of the transcript was
+/// written, or of what the lines so far print, and the report is of their history. Where words, book
+/// and script are in order and neither shelf nor sink fails, the status is 0, or 7 for want of memory.
 pub fn program<R: Threads + Wait + Sync, S: Shelf, K: Sink + Send, G: Gate>(
     rt: &R,
     alloc: Global,
@@ -37,6 +38,7 @@ pub fn program<R: Threads + Wait + Sync, S: Shelf, K: Sink + Send, G: Gate>(
 ) -> Outcome
     ensures status { result.status ≡ status_of result.fault }
     ensures answer { IsAnswer (map string_bytes words.now) (S.held shelf.old) (S.faults shelf.old) (S.faults shelf.new) (K.faults sink.old) (K.faults sink.new) (K.written sink.old) (K.written sink.new) result.report result.fault }
+    ensures complete { IsComplete (map string_bytes words.now) (S.held shelf.old) (S.faults shelf.old) (S.faults shelf.new) (K.faults sink.old) (K.faults sink.new) result.fault }
 {
     match play_words(words) {
         Some((book, script)) => run(rt, alloc, book, script, shelf, sink),

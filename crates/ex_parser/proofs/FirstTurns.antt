@@ -293,10 +293,9 @@ name_has : (ns : List Node) (x : List ℕ) (u : Bool) → HasTree (ns ++ D.Name 
 name_has ns x true = refl
 name_has ns x false = (refl, stands_last ns (D.Name x))
 
-pub reads_name : {ns ns' : List Node} {ps' : List Pending} {m : Move} {at : ℕ} (ps : List Pending) (kind : TokenKind) (x : List ℕ) (b : Bool) (all : List Token) (s : List Frame)
-    → kind ≡ C.Name x → b ≡ not (is_underscore x)
+pub reads_name : {ns ns' : List Node} {ps' : List Pending} {m : Move} {at : ℕ} (ps : List Pending) (x : List ℕ) (b : Bool) (all : List Token) (s : List Frame)
+    → b ≡ not (is_underscore x)
     → (m ≡ HeldAt (plain_held (length ns) b true) at) × (ns' ≡ ns ++ D.Name x ∷ []) × (ps' ≡ ps) → IsStack ns ps s
-    → Turned ns ns' ps' all m (first (token_of kind) s (drop at all))
-reads_name {ns} {at = at} ps kind x b all s q u e h =
-    at_same (λ v. first (token_of v) s (drop at all)) (C.Name x) kind q
-    (reads_plain ps (D.Name x) b true all _ s (name_tree (is_underscore x) x) (Some (P.Named x)) e h (subst (λ v. HasTree (ns ++ D.Name x ∷ []) (length ns) v (name_tree (is_underscore x) x)) (sym u) (name_has ns x (is_underscore x))) (refl, stands_last ns (D.Name x)) refl)
+    → Turned ns ns' ps' all m (Have s (plain (name_tree (is_underscore x) x) (Some (P.Named x))) (drop at all))
+reads_name {ns} ps x b all s u e h =
+    reads_plain ps (D.Name x) b true all _ s (name_tree (is_underscore x) x) (Some (P.Named x)) e h (subst (λ v. HasTree (ns ++ D.Name x ∷ []) (length ns) v (name_tree (is_underscore x) x)) (sym u) (name_has ns x (is_underscore x))) (refl, stands_last ns (D.Name x)) refl

@@ -90,17 +90,17 @@ ends_whole ns ps below all m [] v at l e k h = record { grows = grows_same ns ns
 ends_whole ns ps below all m (f ∷ s) v at l e k h = absurd (omega (arith, ap length k.2, length-append k.0 (k.1 ∷ [])))
 
 -- something was read, and this was begun last
-pub ends_last : {ns ns' : List Node} {ps' : List Pending} {all : List Token} {m : Move} (ps below : List Pending) (r : Option Pending) (q p : Pending) (s : List Frame) (v : Value) (ts : List Token) → ps ≡ below ++ option_to_list r → r ≡ Some q → q ≡ p → IsStack ns ps s → ((f : Frame) (s' : List Frame) → Means ns p f → IsStack ns below s' → Turned ns ns' ps' all m (end_by f s' v ts (follow ts).next (follow ts).rest)) → Turned ns ns' ps' all m (ends s v ts)
-ends_last {ns} {ns'} {ps'} {all} {m} ps below r q p s v ts e f g k go = of s k
+pub ends_last : {ns ns' : List Node} {ps' : List Pending} {all : List Token} {m : Move} (ps below : List Pending) (r : Option Pending) (p : Pending) (s : List Frame) (v : Value) (ts : List Token) → ps ≡ below ++ option_to_list r → r ≡ Some p → IsStack ns ps s → ((f : Frame) → IsFrame ns p f → (s' : List Frame) → IsStack ns below s' → Turned ns ns' ps' all m (end_by f s' v ts (follow ts).next (follow ts).rest)) → Turned ns ns' ps' all m (ends s v ts)
+ends_last {ns} {ns'} {ps'} {all} {m} ps below r p s v ts e f k go = of s k
   where
     last : ps ≡ below ++ p ∷ []
-    last = e ∙ ap (λ o. below ++ option_to_list o) (f ∙ ap Some g)
+    last = e ∙ ap (λ o. below ++ option_to_list o) f
 
     of : (s : List Frame) → IsStack ns ps s → Turned ns ns' ps' all m (ends s v ts)
     of [] k = absurd (omega (arith, ap length (sym last ∙ k), length-append below (p ∷ [])))
     of (f ∷ s) k =
         let q = same_from_push below k.0 p k.1 (sym last ∙ k.2) in
-        go f s (frame_means p (sym q.1) k.3) (subst (λ x. IsStack ns x s) (sym q.0) k.4)
+        go f (subst (λ x. IsFrame ns x f) (sym q.1) k.3) s (subst (λ x. IsStack ns x s) (sym q.0) k.4)
 
 pub at_frame : {ns ns' : List Node} {ps' : List Pending} {all : List Token} {m : Move} {f : Frame} (g : Frame) (s : List Frame) (v : Value) (ts : List Token) → f ≡ g → Turned ns ns' ps' all m (end_by g s v ts (follow ts).next (follow ts).rest) → Turned ns ns' ps' all m (end_by f s v ts (follow ts).next (follow ts).rest)
 at_frame g s v ts e t = at_state _ (ap (λ x. end_by x s v ts (follow ts).next (follow ts).rest) e) t

@@ -2,8 +2,10 @@
 ghost use Rattle.std.specs.Prelude.{List, drop, IfOk};
 ghost use Rattle.ex_grammar.specs.Tokens.{Token as Lexeme};
 ghost use Rattle.ex_grammar.specs.Coded.{IsToken};
+ghost use Rattle.ex_grammar.specs.Grammar.{is_underscore};
+ghost use Rattle.ex_grammar.specs.Patterns.{Named};
 ghost use Rattle.ex_grammar.specs.Trees.{Holes};
-ghost use Rattle.ex_parser.specs.Machine.{Frame, Value, Enclosure as Enclosing, Listed, with_tree, want_cond, first, want_own_key, first_keys, want_word, want_sign, want_pinned, want_text, hole};
+ghost use Rattle.ex_parser.specs.Machine.{Frame, Value, Have, Enclosure as Enclosing, Listed, plain, name_tree, with_tree, want_cond, first, want_own_key, first_keys, want_word, want_sign, want_pinned, want_text, hole};
 ghost use Rattle.ex_parser.specs.Follow.{follow, own_key, text_goes, hole_says};
 ghost use Rattle.ex_parser.specs.Shown.{tokens_of, token_of, IsHeld, IsStack, IsListed, IsEnclosure, HolesBehind, Turned};
 
@@ -27,41 +29,24 @@ impl Parser {
         ensures { IfOk result (λ m. (s : List Frame) → IsToken kind.now (token_of kind.now) → IsStack self.old.nodes.items self.old.stack.items s → Turned self.old.nodes.items self.new.nodes.items self.new.stack.items (tokens_of tokens.now) m (first (token_of kind.now) s (drop after (tokens_of tokens.now)))) }
     {
         match kind {
-            TokenKind::Integer(n) => {
-                let moved = self.plain(Node::Integer(*n), true, true, after)?;
-                Ok(moved)
-            }
-            TokenKind::Atom(text) => {
-                let moved = self.plain(Node::Atom(text.copy()?), true, true, after)?;
-                Ok(moved)
-            }
-            TokenKind::Name(name) => {
-                let moved = self.plain(
-                    Node::Name(name.copy()?),
-                    !is_underscore(name),
-                    true,
-                    after,
-                )?;
-                Ok(moved)
-            }
-            TokenKind::Key(key) => {
-                let moved = self.first_key(key, after)?;
-                Ok(moved)
-            }
-            TokenKind::Word(word) => {
-                let moved = self.first_word(*word, tokens, after)?;
-                Ok(moved)
-            }
-            TokenKind::Sign(sign) => {
-                let moved = self.first_sign(*sign, tokens, after)?;
-                Ok(moved)
-            }
-            TokenKind::TextBegins(says) => {
-                let moved = self.text(says, tokens, after)?;
-                Ok(moved)
-            }
+            TokenKind::Integer(n) => self.plain(Node::Integer(*n), true, true, after),
+            TokenKind::Atom(text) => self.plain(Node::Atom(text.copy()?), true, true, after),
+            TokenKind::Name(name) => self.first_name(name, after),
+            TokenKind::Key(key) => self.first_key(key, after),
+            TokenKind::Word(word) => self.first_word(*word, tokens, after),
+            TokenKind::Sign(sign) => self.first_sign(*sign, tokens, after),
+            TokenKind::TextBegins(says) => self.text(says, tokens, after),
             _ => Ok(Move::Failed),
         }
+    }
+
+    /// Takes a name, which is a variable and a pattern; `_` is a pattern only.
+    pub(crate) fn first_name(&mut self, name: &Word, after: usize) -> Result<Move, AllocError>
+        ensures { IfOk result (λ m. (all : List Lexeme) (s : List Frame) → IsStack self.old.nodes.items self.old.stack.items s → Turned self.old.nodes.items self.new.nodes.items self.new.stack.items all m (Have s (plain (name_tree (is_underscore name.now) name.now) (Some (Named name.now))) (drop after all))) }
+    {
+        let is_tree = !is_underscore(name);
+        let moved = self.plain(Node::Name(name.copy()?), is_tree, true, after)?;
+        Ok(moved)
     }
 
     /// Takes a key, which stands in a list or a call.

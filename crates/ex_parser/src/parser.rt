@@ -5,7 +5,8 @@ ghost use Rattle.ex_grammar.specs.Tokens.{Token as Lexeme, Placed};
 ghost use Rattle.ex_grammar.specs.Coded.{ArePlaced};
 ghost use Rattle.ex_grammar.specs.Newlines.{Lexes};
 ghost use Rattle.ex_grammar.specs.Trees.{Tree};
-ghost use Rattle.ex_parser.specs.Machine.{Frame, State, Value, Want, Done, Stuck, Reaches, floor, with_tree, want, have, take, ends, step, is_over, EndsAt, GoesOff, IsNoWhole};
+ghost use Rattle.ex_parser.specs.Machine.{Frame, State, Value, Want, Done, Stuck, Reaches, floor, with_tree, want, have, take, ends, end_by, step, is_over, EndsAt, GoesOff, IsNoWhole};
+ghost use Rattle.ex_parser.specs.Follow.{follow};
 ghost use Rattle.ex_parser.specs.Parsed.{ParsedIs};
 ghost use Rattle.ex_parser.specs.Stands.{IsAt};
 ghost use Rattle.ex_parser.specs.Shown.{tokens_of, AreTokens, TreeShows, PatternShows, IsHeld, IsFrame, IsStack, Shows, Grows, Turned, tree_held, plain_held};
@@ -391,88 +392,46 @@ impl Parser {
     ) -> Result<Move, AllocError>
         ensures { IfOk result (λ m. (s : List Frame) (v : Value) → IsStack self.old.nodes.items self.old.stack.items s → IsHeld self.old.nodes.items held v → Turned self.old.nodes.items self.new.nodes.items self.new.stack.items (tokens_of tokens.now) m (ends s v (drop at (tokens_of tokens.now)))) }
     {
+        match self.stack.pop() {
+            None => Ok(finished(held, at)),
+            Some(top) => self.end_by(top, tokens, held, at),
+        }
+    }
+
+    /// What was begun takes what was read, or goes on by what stands after it.
+    pub(crate) fn end_by(
+        &mut self,
+        top: Pending,
+        tokens: &[Token],
+        held: Held,
+        at: usize,
+    ) -> Result<Move, AllocError>
+        ensures { IfOk result (λ m. (f : Frame) → IsFrame self.old.nodes.items top f → (s : List Frame) (v : Value) → IsStack self.old.nodes.items self.old.stack.items s → IsHeld self.old.nodes.items held v → Turned self.old.nodes.items self.new.nodes.items self.new.stack.items (tokens_of tokens.now) m (end_by f s v (drop at (tokens_of tokens.now)) (follow (drop at (tokens_of tokens.now))).next (follow (drop at (tokens_of tokens.now))).rest)) }
+    {
         let follow = follow_at(tokens, at);
-        let Some(top) = self.stack.pop() else {
-            return Ok(finished(held, at));
-        };
         match top {
-            Pending::Operand(op, left) => {
-                let moved = self.apply(op, left, held, at)?;
-                Ok(moved)
-            }
-            Pending::Matched(pattern) => {
-                let moved = self.bind(pattern, held, at)?;
-                Ok(moved)
-            }
-            Pending::Prefixed(prefix) => {
-                let moved = self.prefix(prefix, held, at)?;
-                Ok(moved)
-            }
+            Pending::Operand(op, left) => self.apply(op, left, held, at),
+            Pending::Matched(pattern) => self.bind(pattern, held, at),
+            Pending::Prefixed(prefix) => self.prefix(prefix, held, at),
             Pending::Parens => Ok(close_parens(held, follow)),
-            Pending::Items(enclosure, items) => {
-                let moved = self.item(enclosure, items, held, follow)?;
-                Ok(moved)
-            }
+            Pending::Items(enclosure, items) => self.item(enclosure, items, held, follow),
             Pending::Keyed(enclosure, items, keys, key) => {
-                let moved = self.keyed(enclosure, items, keys, key, held, tokens, follow)?;
-                Ok(moved)
+                self.keyed(enclosure, items, keys, key, held, tokens, follow)
             }
-            Pending::Tail(items) => {
-                let moved = self.tail(items, held, follow)?;
-                Ok(moved)
-            }
-            Pending::Hole(says, holes) => {
-                let moved = self.hole(says, holes, held, tokens, at)?;
-                Ok(moved)
-            }
-            Pending::If => {
-                let moved = self.condition(held, follow)?;
-                Ok(moved)
-            }
-            Pending::Do(condition) => {
-                let moved = self.do_if(condition, held, at, follow)?;
-                Ok(moved)
-            }
-            Pending::ElseDo(condition, body) => {
-                let moved = self.do_else(condition, body, held, at)?;
-                Ok(moved)
-            }
-            Pending::Body(block, body) => {
-                let moved = self.body(block, body, held, follow)?;
-                Ok(moved)
-            }
-            Pending::Case => {
-                let moved = self.subject(held, follow)?;
-                Ok(moved)
-            }
-            Pending::FirstPattern(subject) => {
-                let moved = self.first_pattern(subject, held, follow)?;
-                Ok(moved)
-            }
-            Pending::FirstCondition => {
-                let moved = self.first_condition(held, follow)?;
-                Ok(moved)
-            }
-            Pending::ForPattern => {
-                let moved = self.for_pattern(held, follow)?;
-                Ok(moved)
-            }
-            Pending::ForSource(pattern) => {
-                let moved = self.for_source(pattern, held, follow)?;
-                Ok(moved)
-            }
-            Pending::Part(head) => {
-                let moved = self.part(head, held, follow)?;
-                Ok(moved)
-            }
-            Pending::PartSource(head, pattern) => {
-                let moved = self.part_source(head, pattern, held, follow)?;
-                Ok(moved)
-            }
-            Pending::ForDo(head) => {
-                let moved = self.do_for(head, held, at)?;
-                Ok(moved)
-            }
+            Pending::Tail(items) => self.tail(items, held, follow),
+            Pending::Hole(says, holes) => self.hole(says, holes, held, tokens, at),
+            Pending::If => self.condition(held, follow),
+            Pending::Do(condition) => self.do_if(condition, held, at, follow),
+            Pending::ElseDo(condition, body) => self.do_else(condition, body, held, at),
+            Pending::Body(block, body) => self.body(block, body, held, follow),
+            Pending::Case => self.subject(held, follow),
+            Pending::FirstPattern(subject) => self.first_pattern(subject, held, follow),
+            Pending::FirstCondition => self.first_condition(held, follow),
+            Pending::ForPattern => self.for_pattern(held, follow),
+            Pending::ForSource(pattern) => self.for_source(pattern, held, follow),
+            Pending::Part(head) => self.part(head, held, follow),
+            Pending::PartSource(head, pattern) => self.part_source(head, pattern, held, follow),
+            Pending::ForDo(head) => self.do_for(head, held, at),
         }
     }
 }

@@ -1,3 +1,4 @@
+pub mod Accepting
 mod BookLines
 mod Books
 mod Characters

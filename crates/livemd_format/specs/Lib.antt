@@ -1,3 +1,4 @@
+pub mod Accepts
 pub mod Draft
 pub mod Items
 pub mod Reads

@@ -50,6 +50,19 @@ fn lines_have_kinds(rt: HostRuntime) -> Result<(), Fail> {
 }
 
 #[test]
+fn a_fence_stays_open_until_it_is_closed(rt: HostRuntime) -> Result<(), Fail> {
+    let rows = [
+        ("```\n## S\n```\n## S", "Inside;Closes;Heading2(\"S\");"),
+        ("```\n~~~\n# T", "Inside;Inside;"),
+        ("~~~~\n~~~\n~~~~~\n# T", "Inside;Closes;Heading1(\"T\");"),
+    ];
+    for (text, wanted) in rows {
+        assert!(rt; kinds(rt.alloc(), text)?.as_str().ends_with(wanted));
+    }
+    Ok(())
+}
+
+#[test]
 fn the_largest_text(rt: HostRuntime) -> Result<(), Fail> {
     let bytes = vec![in rt.alloc(); b'`'; 8_388_608]?;
     let text = str::from_utf8(bytes.as_slice())?;

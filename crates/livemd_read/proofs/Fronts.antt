@@ -1,12 +1,12 @@
 -- What the first of the items make, while the others are still to be put.
-use Rattle.std.proofs.Common.{◌≡◌, ℕ, ◌+◌, ◌<◌, ◌≤◌, ◌^◌, List, ◌++◌, length, take, drop, sym, ap, ◌∙◌, arith, subst}
+use Rattle.std.proofs.Common.{◌≡◌, ℕ, ◌+◌, ◌<◌, ◌≤◌, ◌^◌, List, ◌++◌, length, take, drop, sym, ap, ◌∙◌, arith}
 use Rattle.std.specs.List.{fold}
-use Rattle.std.proofs.lemmas.List.{map-append, take-append-drop, take_all}
+use Rattle.std.proofs.lemmas.List.{map-append, take-append-drop}
 use Rattle.notebook.specs.Book.{section_cells}
+use Rattle.livemd_format.specs.Accepts.{HasFewSections, HasFewCells}
 use Rattle.livemd_format.specs.Draft.{Draft, new_draft, with_item}
 use Rattle.livemd_read.specs.declared.draft.Draft as code
 use Rattle.livemd_read.specs.declared.items.Item.{Item}
-use Rattle.livemd_read.specs.Causes.{HasFewSections, HasFewCells}
 use Rattle.livemd_read.specs.Views.{draft_of, item_of, views}
 use Rattle.livemd_read.proofs.Growing.{sections-front, cells-front}
 use Rattle.livemd_read.proofs.Numbering.{IsDraft-items, next_cell-is, next_section-is}

@@ -1,40 +1,11 @@
 -- Why a book isn't read.
-use Rattle.std.specs.Prelude.{◌≡◌, ◌⊎◌, ℕ, ◌<◌, ◌≤◌, List, length, IsUtf8}
+use Rattle.std.specs.Prelude.{◌≡◌, ℕ, ◌<◌, List, length, IsUtf8}
 use Rattle.std.specs.Str.Lossy.{utf8_valid_len}
-use Rattle.notebook.specs.declared.parts.Parts.{Parts}
-use Rattle.notebook.specs.Book.{section_cells}
-use Rattle.notebook.specs.Rules.{code_count}
+use Rattle.livemd_format.specs.Accepts.{HasFewSections, HasManyCells, IsBookText, IsSmall}
 use Rattle.livemd_format.specs.Draft.{notebook_of}
 use Rattle.livemd_format.specs.Reads.{items_of}
 use Rattle.livemd_read.specs.declared.types.BookError.{BookError}
 use Rattle.livemd_read.specs.declared.types.BookError.TheVariants.{TooLarge, NotUtf8, TooManySections, TooManyCells, OutOfMemory}
-
--- at most 8,388,608 bytes
-abbrev pub IsSmall : List ℕ → Type 0
-IsSmall bytes = length bytes ≤ 8388608
-
--- a text that isn't too large
-pub record IsBookText (bytes : List ℕ) : Type 0 where
-  pub small : IsSmall bytes
-  pub text : IsUtf8 bytes
-
--- at most 1,000 sections
-abbrev pub HasFewSections : Parts → Type 0
-HasFewSections n = length n.sections ≤ 1000
-
--- at most 4,000 cells beside the setup cell, and 1,000 code cells among them
-pub record HasFewCells (n : Parts) : Type 0 where
-  pub cells : length (section_cells n) ≤ 4000
-  pub code_cells : code_count (section_cells n) ≤ 1000
-
-abbrev pub HasManyCells : Parts → Type 0
-HasManyCells n = (4000 < length (section_cells n)) ⊎ (1000 < code_count (section_cells n))
-
--- a book that nothing but want of memory keeps from being read
-pub record IsAccepted (bytes : List ℕ) : Type 0 where
-  pub text : IsBookText bytes
-  pub few_sections : HasFewSections (notebook_of (items_of bytes))
-  pub few_cells : HasFewCells (notebook_of (items_of bytes))
 
 -- why a book isn't read: the first cause in the order of the checks
 abbrev pub IsBookCause : List ℕ → BookError → Type 0

@@ -1,5 +1,6 @@
 //! The tidy form of a notebook, and its text.
 ghost use Rattle.std.specs.Prelude.{◌≡◌, ℕ, List, [], ◌∷◌, IfOk, string_bytes};
+ghost use Rattle.livemd_format.specs.Accepts.{IsAccepted, IsSmall};
 ghost use Rattle.livemd_format.specs.Reads.{Reads};
 ghost use Rattle.livemd_format.specs.RoundTrip.{IsPlain};
 ghost use Rattle.livemd_format.specs.Tidy.{tidied};
@@ -30,10 +31,12 @@ fn behind_feed(text: &str) -> &str
 }
 
 /// The text of a notebook's tidy form, as a book. Where each kept line and each info is one that a
-/// book can tell, a reader finds the tidy form in it, and nothing to note.
+/// book can tell, a reader finds the tidy form in it, and nothing to note; it refuses the text only
+/// if that is too large, or for want of memory.
 pub fn text(alloc: Global, book: &Notebook) -> Result<String, AllocError>
     ensures text { IfOk result (λ t. string_bytes t ≡ text_of (tidied book.now)) }
     ensures reads_back { IfOk result (λ t. IsPlain book.now → Reads (string_bytes t) (tidied book.now) []) }
+    ensures accepted { IfOk result (λ t. IsPlain book.now → IsSmall (string_bytes t) → IsAccepted (string_bytes t)) }
 {
     let parts = tidied(alloc, book.parts())?;
     let mut out = String::new(alloc);
@@ -46,6 +49,7 @@ pub fn text(alloc: Global, book: &Notebook) -> Result<String, AllocError>
 pub fn write(alloc: Global, book: &Notebook) -> Result<Vec<u8>, AllocError>
     ensures text { IfOk result (λ v. v.items ≡ text_of (tidied book.now)) }
     ensures reads_back { IfOk result (λ v. IsPlain book.now → Reads v.items (tidied book.now) []) }
+    ensures accepted { IfOk result (λ v. IsPlain book.now → IsSmall v.items → IsAccepted v.items) }
 {
     let text = text(alloc, book)?;
     Ok(text.into_bytes())

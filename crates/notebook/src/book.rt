@@ -112,7 +112,8 @@ impl Notebook {
     }
 
     /// Makes one change of the structure, or tells the first cause that refuses it; then, and where
-    /// memory ran out, the notebook is as it was.
+    /// memory ran out, the notebook is as it was. The numbers that the next cell and section would
+    /// take have to be below 2^63.
     pub fn change(&mut self, alloc: Global, asked: Change) -> Result<Changed, NoteError>
         requires cells { self.old.next_cell < 2 ^ 63 }
         requires sections { self.old.next_section < 2 ^ 63 }
@@ -169,7 +170,8 @@ impl Notebook {
     }
 
     /// The numbers of the cells that an evaluation of the cell passes: those of its lane up to and with
-    /// the cell itself. The setup cell's path is itself.
+    /// the cell itself. The setup cell's path is itself. [`PathError::NoCell`] exactly where no live setup
+    /// or code cell has the number.
     pub fn path(&self, alloc: Global, cell: CellId) -> Result<Vec<CellId>, PathError>
         ensures path { IfOk result (λ ids. Some ids.items ≡ option_map (map cell_number) (flow self.now cell)) }
         ensures no_cell { (result ≡ Err NoCell) ↔ (lane_of self.now cell ≡ None) }

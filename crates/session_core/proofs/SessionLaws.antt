@@ -16,13 +16,13 @@ use Rattle.session_ops.specs.declared.entry.Reply.{Reply}
 use Rattle.session_ops.specs.declared.entry.Reply.TheVariants.{Accepted, Refused}
 use Rattle.session_ops.specs.declared.entry.Entry.{Entry}
 use Rattle.session_ops.specs.Numbers.{is_in, is_other, without_number}
-use Rattle.session_ops.specs.State.{State, state, jobs, opening, after, after_call, reply, joined_reply, stranger_reply, once_left, MayCall, Legal}
+use Rattle.session_ops.specs.State.{State, ChangesNothing, state, jobs, opening, after, after_call, reply, joined_reply, stranger_reply, once_left, MayCall, Legal}
 use Rattle.session_ops.proofs.Growing.{state-append, legal-append}
 use Rattle.session_ops.proofs.Sweeps.{swept-same}
-use Rattle.session_ops.proofs.Settled.{hopeful-state}
+use Rattle.session_ops.proofs.Settled.{hopeful-state, nothing-changed}
 use Rattle.session_core.specs.declared.session.Session.{Session}
 use Rattle.session_core.specs.Logs.{AreLogs, IsLogIn, LineUp, log_cell, once_joined}
-use Rattle.session_core.specs.Session.{IsSession, Holds, HasAnswered, IsAsBefore, history_of, state_of, entry_of}
+use Rattle.session_core.specs.Session.{IsSession, Holds, HasAnswered, LeavesState, IsAsBefore, history_of, state_of, entry_of}
 use Rattle.session_core.proofs.Owners.{logs-work, logs-kept, opening-logs}
 
 -- a session that was asked one thing more
@@ -46,6 +46,14 @@ answered-session n0 s s' by call answer is may right grown eb ej al ew =
             work = ew ∙ sym (ap (λ x. x.work) st);
           };
     }
+
+-- an answer that changes nothing leaves the state
+pub same-state : (n0 : Parts) (s s' : Session) (by : ℕ) (call : Call) (answer : Reply) → HasAnswered n0 by call s s' answer → ChangesNothing call answer → LeavesState n0 s s'
+same-state n0 s s' by call answer h k = ap (state n0) h.history ∙ (state-append n0 (history_of s) (entry_of by call answer) ∙ nothing-changed n0 (history_of s) by call answer k)
+
+pub same-state-ok : {E : Type 0} (n0 : Parts) (s s' : Session) (by : ℕ) (call : Call) (r : Result Reply E) → IfOk r (HasAnswered n0 by call s s') → IfOk r (λ answer. ChangesNothing call answer → LeavesState n0 s s')
+same-state-ok n0 s s' by call (Ok answer) h = same-state n0 s s' by call answer h
+same-state-ok n0 s s' by call (Err e) h = tt
 
 -- the same, by what the session holds
 pub answered-holding : (n0 : Parts) (s s' : Session) (by : ℕ) (call : Call) (answer : Reply) → IsSession n0 s → MayCall (state_of n0 s) (jobs n0 (history_of s)) by call → answer ≡ reply (state_of n0 s) call

@@ -59,6 +59,10 @@ pub record HasAnswered (n0 : Parts) (by : ℕ) (call : Call) (old new : Session)
   pub history : history_of new ≡ history_of old ++ entry_of by call answer ∷ []
   pub session : IsSession n0 new
 
+-- whatever was appended, the state is as it was
+abbrev pub LeavesState : Parts → Session → Session → Type 0
+LeavesState n0 old new = state_of n0 new ≡ state_of n0 old
+
 -- nothing was appended, and the session stands for its history as before
 pub record IsAsBefore (n0 : Parts) (old new : Session) : Type 0 where
   pub history : history_of new ≡ history_of old

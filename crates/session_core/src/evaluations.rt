@@ -6,10 +6,10 @@ ghost use Rattle.notebook.specs.declared.parts.Parts.{Parts};
 ghost use Rattle.lanes.specs.Work.{may_start};
 ghost use Rattle.lanes.specs.Changes.{running_eval};
 ghost use Rattle.session_ops.specs.declared.entry.Call.TheVariants.{Respond};
-ghost use Rattle.session_ops.specs.State.{respond_reply};
+ghost use Rattle.session_ops.specs.State.{ChangesNothing};
 ghost use Rattle.session_core.specs.declared.job.PlainJob.{PlainJob as AnyJob};
 ghost use Rattle.session_core.specs.Jobs.{IsAlongTo, answer_by};
-ghost use Rattle.session_core.specs.Session.{IsSession, HasAnswered, HasTriedStart, IsAsBefore, IsHandedOut, state_of};
+ghost use Rattle.session_core.specs.Session.{IsSession, HasAnswered, HasTriedStart, LeavesState, IsAsBefore, IsHandedOut, state_of};
 
 use crate::job::{PlainJob, base_of};
 use crate::session::Session;
@@ -82,6 +82,7 @@ impl Session {
     /// `Late`, and then the history alone changes. After want of memory nothing is appended.
     pub fn respond(&mut self, by: u32, eval: u64, ran: Ran) -> Result<Reply, AllocError>
         ensures ok { (n0 : Parts) (job : AnyJob) → IsSession n0 self.old → IsHandedOut n0 self.old by job → job.eval ≡ eval → MeansInCell (encode_utf8_all job.source) job.base ran → IfOk result (HasAnswered n0 by (Respond eval ran.shown) self.old self.new) }
+        ensures late { (n0 : Parts) (job : AnyJob) → IsSession n0 self.old → IsHandedOut n0 self.old by job → job.eval ≡ eval → MeansInCell (encode_utf8_all job.source) job.base ran → IfOk result (λ answer. ChangesNothing (Respond eval ran.shown) answer → LeavesState n0 self.old self.new) }
         ensures err { (n0 : Parts) → IsSession n0 self.old → OnErr result (IsAsBefore n0 self.old self.new) }
     {
         let shown = ran.shown.copy()?;

@@ -9,14 +9,13 @@ ghost use Rattle.session_ops.specs.declared.entry.Call.TheVariants.{Client};
 ghost use Rattle.session_ops.specs.declared.entry.Op.TheVariants.{Join as IsJoin, Leave as IsLeave};
 ghost use Rattle.session_ops.specs.declared.entry.Reply.TheVariants.{Refused};
 ghost use Rattle.session_ops.specs.Snapshot.{IsSnapshot, live_revision};
-ghost use Rattle.session_ops.specs.State.{reply};
+ghost use Rattle.session_ops.specs.State.{ChangesNothing, reply};
 ghost use Rattle.session_ops.specs.Structure.{change_of};
-ghost use Rattle.session_core.specs.Session.{IsSession, HasAnswered, IsAsBefore, IsWaiting, history_of, state_of, status_of, validity_of, shown_of, ready_lane};
+ghost use Rattle.session_core.specs.Session.{IsSession, HasAnswered, LeavesState, IsAsBefore, IsWaiting, history_of, state_of, status_of, validity_of, shown_of, ready_lane};
 
 use crate::clients::{is_in, remove};
 use crate::logs::{CellLog, first_logs, leave_all, place_of, revisions, take_part};
 use crate::sources::Edit;
-use crate::structure::change_of;
 use ex_model::Shown;
 use lanes::{Row, Work};
 use notebook::{CellId, Lane, Notebook, Status, Validity};
@@ -57,9 +56,10 @@ impl Session {
     /// call changes the history alone. After want of memory nothing is appended.
     pub fn apply(&mut self, by: u32, client: u32, op: Op) -> Result<Reply, AllocError>
         ensures ok { (n0 : Parts) → IsSession n0 self.old → IfOk result (HasAnswered n0 by (Client client op) self.old self.new) }
+        ensures refused { (n0 : Parts) → IsSession n0 self.old → IfOk result (λ answer. ChangesNothing (Client client op) answer → LeavesState n0 self.old self.new) }
         ensures err { (n0 : Parts) → IsSession n0 self.old → OnErr result (IsAsBefore n0 self.old self.new) }
     {
-        match change_of(&op)? {
+        match op.change()? {
             Some(change) => self.restructure(by, client, op, change),
             None => self.act(by, client, op),
         }
@@ -176,7 +176,7 @@ impl Session {
     }
 
     /// Whether nothing is queued and nothing runs. Takes no memory.
-    pub fn is_idle(&self) -> bool
+    pub fn idle(&self) -> bool
         ensures { (n0 : Parts) → IsSession n0 self.now → result ≡ is_idle (state_of n0 self.now).work }
     {
         self.work.is_idle()

@@ -123,66 +123,6 @@ impl Session {
     }
 }
 
-/// The change that an operation asks for; `None` where it asks for none.
-pub(crate) fn change_of(op: &Op) -> Result<Option<Change>, AllocError>
-    ensures { IfOk result (λ c. c ≡ change_of op.now) }
-{
-    match op {
-        Op::SetName { name } => Ok(Some(Change::SetName { name: name.copy()? })),
-        Op::InsertSection { index, name } => Ok(Some(Change::InsertSection {
-            index: *index,
-            name: name.copy()?,
-        })),
-        Op::SetSectionName { section, name } => Ok(Some(Change::SetSectionName {
-            section: *section,
-            name: name.copy()?,
-        })),
-        Op::DeleteSection { section } => Ok(Some(Change::DeleteSection { section: *section })),
-        Op::MoveSection { section, index } => Ok(Some(Change::MoveSection {
-            section: *section,
-            index: *index,
-        })),
-        Op::SetParent { section, parent } => Ok(Some(Change::SetParent {
-            section: *section,
-            parent: *parent,
-        })),
-        Op::InsertCell {
-            section,
-            index,
-            kind,
-        } => Ok(Some(Change::InsertCell {
-            section: *section,
-            index: *index,
-            kind: *kind,
-        })),
-        Op::DeleteCell { cell } => Ok(Some(Change::DeleteCell { cell: *cell })),
-        Op::RestoreCell {
-            cell,
-            section,
-            index,
-        } => Ok(Some(Change::RestoreCell {
-            cell: *cell,
-            section: *section,
-            index: *index,
-        })),
-        Op::MoveCell {
-            cell,
-            section,
-            index,
-        } => Ok(Some(Change::MoveCell {
-            cell: *cell,
-            section: *section,
-            index: *index,
-        })),
-        Op::Join
-        | Op::Leave
-        | Op::Delta { .. }
-        | Op::Report { .. }
-        | Op::Queue { .. }
-        | Op::Cancel { .. } => Ok(None),
-    }
-}
-
 /// Whether a change takes cells away.
 fn takes_away(change: &Change) -> bool
     ensures { result ≡ takes_away change.now }

@@ -186,6 +186,14 @@ fn a_stranger_is_refused_whatever_it_asks(rt: HostRuntime) -> Result<(), Fail> {
     Ok(())
 }
 
+#[test]
+fn a_delta_of_a_stranger_is_refused_and_counts(rt: HostRuntime) -> Result<(), Fail> {
+    let mut session = open(rt.alloc())?;
+    let refused = type_in(rt.alloc(), &mut session, ANN, 0, 0, "a")?;
+    assert!(rt; refused == Some(Refusal::NotJoined) && calls(&session) == 1);
+    Ok(())
+}
+
 /// A session that Ann has left again.
 fn left(alloc: Global) -> Result<Session, AllocError> {
     let mut session = open_for_two(alloc)?;
@@ -242,7 +250,7 @@ fn a_branch_starts_from_its_parents_end(rt: HostRuntime) -> Result<(), Fail> {
     assert!(rt; start(&mut session, Lane::Branch(2))?.is_none() && calls(&session) == 10);
     settle(rt.alloc(), &mut session)?;
     assert!(rt; is_worth(&session, 3, Validity::Evaluated) && calls(&session) == 18);
-    assert!(rt; session.is_idle());
+    assert!(rt; session.idle());
     Ok(())
 }
 

@@ -5,11 +5,13 @@ use Rattle.notebook.specs.declared.parts.Parts.{Parts}
 use Rattle.lanes.specs.declared.work.Work.{Work}
 use Rattle.lanes.specs.Changes.{swept}
 use Rattle.session_ops.specs.declared.entry.Op.{Op}
+use Rattle.session_ops.specs.declared.entry.Call.{Call}
 use Rattle.session_ops.specs.declared.entry.Call.TheVariants.{Client, Respond}
 use Rattle.session_ops.specs.declared.entry.Refusal.{Refusal}
+use Rattle.session_ops.specs.declared.entry.Reply.{Reply}
 use Rattle.session_ops.specs.declared.entry.Reply.TheVariants.{Late, Refused}
 use Rattle.session_ops.specs.declared.entry.Entry.{Entry}
-use Rattle.session_ops.specs.State.{State, opening, state, state_from, after, after_call}
+use Rattle.session_ops.specs.State.{State, ChangesNothing, refused_call, late_answer, opening, state, state_from, after, after_call}
 use Rattle.session_ops.proofs.Steps.{once_swept}
 use Rattle.session_ops.proofs.Sweeps.{AreHopeful, swept-hope, swept-same}
 
@@ -40,3 +42,8 @@ refused-same n0 h by n op why = after-same (state n0 h) (record { by = by; call 
 -- nor does a late answer
 pub late-same : (n0 : Parts) (h : List Entry) (by eval e : ℕ) (shown : Shown) → after (state n0 h) (record { by = by; call = Respond eval shown; reply = Late e }) ≡ state n0 h
 late-same n0 h by eval e shown = after-same (state n0 h) (record { by = by; call = Respond eval shown; reply = Late e }) (hopeful-state n0 h) refl
+
+-- the state after an answer that changes nothing is the state before
+pub nothing-changed : (n0 : Parts) (h : List Entry) (by : ℕ) (call : Call) (answer : Reply) → ChangesNothing call answer → after (state n0 h) (record { by = by; call = call; reply = answer }) ≡ state n0 h
+nothing-changed n0 h by call answer (refused_call n op why) = refused-same n0 h by n op why
+nothing-changed n0 h by call answer (late_answer eval late shown) = late-same n0 h by eval late shown

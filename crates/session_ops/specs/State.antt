@@ -265,6 +265,11 @@ after_call s (Start lane) (Started eval cell) = record s { work = begun s.book l
 after_call s (Respond eval shown) (Stored e) = record s { work = stored shown s.work (running_eval s.work eval) }
 after_call s call answer = s
 
+-- an answer that changes nothing: a client's call is refused, or what was evaluated comes late
+pub data ChangesNothing : Call → Reply → Type 0 where
+  refused_call : (n : ℕ) (op : Op) (why : Refusal) → ChangesNothing (Client n op) (Refused why)
+  late_answer : (eval late : ℕ) (shown : Shown) → ChangesNothing (Respond eval shown) (Late late)
+
 -- after each entry the queued cells that stand on a failed one are taken out
 abbrev pub after : State → Entry → State
 after s e = let t : State = after_call s e.call e.reply in record t { work = swept t.book t.work }

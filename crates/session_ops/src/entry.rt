@@ -1,10 +1,10 @@
 //! Calls, replies and the entries of a history.
 ghost use Rattle.std.specs.Prelude.{◌≡◌, IfOk};
-ghost use Rattle.session_ops.specs.Structure.{is_postable};
+ghost use Rattle.session_ops.specs.Structure.{change_of, is_postable};
 
 use delta::Delta;
 use ex_model::Shown;
-use notebook::{CellId, CellKind, Lane, SectionId};
+use notebook::{CellId, CellKind, Change, Lane, SectionId};
 use std::alloc::{AllocError, Global};
 use utf16_text::Text;
 
@@ -99,6 +99,66 @@ impl Op {
         )
     }
 
+    /// The change of the notebook's structure that it asks for; `None` where it asks for none.
+    pub fn change(&self) -> Result<Option<Change>, AllocError>
+        ensures { IfOk result (λ asked. asked ≡ change_of self.now) }
+    {
+        match self {
+            Op::SetName { name } => Ok(Some(Change::SetName { name: name.copy()? })),
+            Op::InsertSection { index, name } => Ok(Some(Change::InsertSection {
+                index: *index,
+                name: name.copy()?,
+            })),
+            Op::SetSectionName { section, name } => Ok(Some(Change::SetSectionName {
+                section: *section,
+                name: name.copy()?,
+            })),
+            Op::DeleteSection { section } => Ok(Some(Change::DeleteSection { section: *section })),
+            Op::MoveSection { section, index } => Ok(Some(Change::MoveSection {
+                section: *section,
+                index: *index,
+            })),
+            Op::SetParent { section, parent } => Ok(Some(Change::SetParent {
+                section: *section,
+                parent: *parent,
+            })),
+            Op::InsertCell {
+                section,
+                index,
+                kind,
+            } => Ok(Some(Change::InsertCell {
+                section: *section,
+                index: *index,
+                kind: *kind,
+            })),
+            Op::DeleteCell { cell } => Ok(Some(Change::DeleteCell { cell: *cell })),
+            Op::RestoreCell {
+                cell,
+                section,
+                index,
+            } => Ok(Some(Change::RestoreCell {
+                cell: *cell,
+                section: *section,
+                index: *index,
+            })),
+            Op::MoveCell {
+                cell,
+                section,
+                index,
+            } => Ok(Some(Change::MoveCell {
+                cell: *cell,
+                section: *section,
+                index: *index,
+            })),
+            Op::Join
+            | Op::Leave
+            | Op::Delta { .. }
+            | Op::Report { .. }
+            | Op::Queue { .. }
+            | Op::Cancel { .. } => Ok(None),
+        }
+    }
+
     /// An equal operation.
     pub fn copy(&self, alloc: Global) -> Result<Op, AllocError>
         ensures { IfOk result (λ op. op ≡ self.now) }
@@ -178,6 +238,25 @@ pub enum Call {
     Respond { eval: u64, shown: Shown },
 }
 
+impl Call {
+    /// An equal call.
+    pub fn copy(&self, alloc: Global) -> Result<Call, AllocError>
+        ensures { IfOk result (λ call. call ≡ self.now) }
+    {
+        match self {
+            Call::Client { client, op } => Ok(Call::Client {
+                client: *client,
+                op: op.copy(alloc)?,
+            }),
+            Call::Start { lane } => Ok(Call::Start { lane: *lane }),
+            Call::Respond { eval, shown } => Ok(Call::Respond {
+                eval: *eval,
+                shown: shown.copy()?,
+            }),
+        }
+    }
+}
+
 /// Why a client's call is refused, in the order of the checks. A refused call changes nothing.
 #[derive(Clone, Copy, Debug, PartialEq, Eq)]
 pub enum Refusal {
@@ -238,10 +317,47 @@ pub enum Reply {
     Refused(Refusal),
 }
 
+impl Reply {
+    /// An equal reply.
+    pub fn copy(&self, alloc: Global) -> Result<Reply, AllocError>
+        ensures { IfOk result (λ reply. reply ≡ self.now) }
+    {
+        match self {
+            Reply::Accepted => Ok(Reply::Accepted),
+            Reply::Applied { rev, delta } => Ok(Reply::Applied {
+                rev: *rev,
+                delta: delta.copy(alloc)?,
+            }),
+            Reply::NewCell { cell } => Ok(Reply::NewCell { cell: *cell }),
+            Reply::NewSection { section } => Ok(Reply::NewSection { section: *section }),
+            Reply::Started { eval, cell } => Ok(Reply::Started {
+                eval: *eval,
+                cell: *cell,
+            }),
+            Reply::Stored { eval } => Ok(Reply::Stored { eval: *eval }),
+            Reply::Late { eval } => Ok(Reply::Late { eval: *eval }),
+            Reply::Refused(why) => Ok(Reply::Refused(*why)),
+        }
+    }
+}
+
 /// A call with its answer, under the number of the caller's seat.
 #[derive(Debug, Drop)]
 pub struct Entry {
     pub by: u32,
     pub call: Call,
     pub reply: Reply,
+}
+
+impl Entry {
+    /// An equal entry.
+    pub fn copy(&self, alloc: Global) -> Result<Entry, AllocError>
+        ensures { IfOk result (λ entry. entry ≡ self.now) }
+    {
+        Ok(Entry {
+            by: self.by,
+            call: self.call.copy(alloc)?,
+            reply: self.reply.copy(alloc)?,
+        })
+    }
 }

@@ -1,11 +1,14 @@
 use Rattle.std.proofs.Common.{map}
 use Rattle.driver.specs.Lines.{notice_line}
 use Rattle.driver.proofs.AnswerLaws.{on-ok}
-use Rattle.driver.proofs.Played.{noticed-all, fresh-history}
+use Rattle.driver.proofs.Played.{noticed-all, noticed-cut, notices-cut}
 use Rattle.driver.proofs.play.play_all.Goals as goal
 
 pub returns-in-Ok-clause-played : goal.returns-in-Ok-clause-played
 returns-in-Ok-clause-played g c = λ n0 fr. on-ok c.play_script.result (noticed-all n0 (map notice_line c.args.notices.now) c.args.content.now c.play_script.new.player _ _ _ c.in-Ok.ensures.written) (c.play_script.ensures.played n0 fr)
 
+pub returns-in-Ok-clause-failed : goal.returns-in-Ok-clause-failed
+returns-in-Ok-clause-failed g c = λ n0 fr e. noticed-cut n0 (map notice_line c.args.notices.now) c.args.content.now c.play_script.new.player _ _ _ c.in-Ok.ensures.written (c.play_script.ensures.failed n0 fr e)
+
 pub returns-in-Err-clause-failed : goal.returns-in-Err-clause-failed
-returns-in-Err-clause-failed g c = λ n0 fr e. fresh-history n0 c.args.player.now fr
+returns-in-Err-clause-failed g c = λ n0 fr e. notices-cut n0 (map notice_line c.args.notices.now) c.args.content.now c.args.player.now _ _ fr (c.in-Err.ensures.cut e)

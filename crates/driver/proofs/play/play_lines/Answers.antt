@@ -1,5 +1,5 @@
 use Rattle.std.proofs.Common.{arith, string_bytes, subst}
-use Rattle.book_outside.specs.Outside.{AppendsAll}
+use Rattle.book_outside.specs.Outside.{AppendsAll, AppendsFront}
 use Rattle.driver.proofs.Played.{have-none, have-more, have-all, have-failed}
 use Rattle.driver.proofs.play.play_lines.Goals as goal
 
@@ -17,6 +17,8 @@ loop-line-preserved g c = record {
   counts = omega (arith, c.loop-line.invariant.counts, c.write_piece.ensures.counts);
 }
 
+-- just a front of the line's piece was written
 pub returns-in-Err-clause-failed : goal.returns-in-Err-clause-failed
 returns-in-Err-clause-failed g c = λ n0 s st e.
-    have-failed _ c.args.lines.now _ c.line-item.result c.args.player.now c.loop-line.player c.line_text.new.player s _ _ (string_bytes c.in_ok-piece.piece) (c.loop-line.invariant.way n0 s st) (λ t k. c.in_ok-piece.ensures.played n0 t k)
+    have-failed _ c.args.lines.now c.loop-line.line-index c.line-item.result c.args.player.now c.loop-line.player c.line_text.new.player s _ _ _ (string_bytes c.in_ok-piece.piece) c.loop-line-test.true c.line-item.is (c.loop-line.invariant.way n0 s st)
+    (λ t k. c.in_ok-piece.ensures.played n0 t k) (subst (λ x. AppendsFront (g.K.Sink.written c.loop-line.sink) x (g.K.Sink.written c.write_piece.new.sink)) c.as_str.ensures.value (c.in-Err.ensures.cut e))

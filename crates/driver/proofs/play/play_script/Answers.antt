@@ -12,7 +12,7 @@ returns-in-Ok-clause-played g c = λ n0 fr.
 pub returns-in-Ok-clause-failed : goal.returns-in-Ok-clause-failed
 returns-in-Ok-clause-failed g c = λ n0 fr e.
     let is = fresh-session n0 c.args.content.now c.args.player.now c.play_lines.new.player _ _ c.as_slice-names.result.now c.as_slice-lines.result.now fr c.as_slice-names.ensures c.as_slice-lines.ensures c.in-Ok.ensures.played in
-    fresh-cut n0 c.args.content.now c.args.player.now c.play_lines.new.player c.play_end.new.player _ _ c.as_slice-names.result.now c.as_slice-lines.result.now fr c.as_slice-names.ensures c.as_slice-lines.ensures c.in-Ok.ensures.played (c.play_end.ensures.failed n0 is e)
+    fresh-cut n0 c.args.content.now c.args.player.now c.play_lines.new.player c.play_end.new.player _ _ _ c.as_slice-names.result.now c.as_slice-lines.result.now fr c.as_slice-names.ensures c.as_slice-lines.ensures c.in-Ok.ensures.played (c.play_end.ensures.failed n0 is e)
 
 pub returns-in-Err-clause-failed : goal.returns-in-Err-clause-failed
-returns-in-Err-clause-failed g c = λ n0 fr e. fresh-failed n0 c.args.content.now c.args.player.now c.play_lines.new.player c.as_slice-names.result.now c.as_slice-lines.result.now fr (λ n s st. c.in-Err.ensures.failed n s st e)
+returns-in-Err-clause-failed g c = λ n0 fr e. fresh-failed n0 c.args.content.now c.args.player.now c.play_lines.new.player _ _ c.as_slice-names.result.now c.as_slice-lines.result.now fr c.as_slice-names.ensures c.as_slice-lines.ensures (λ n s st. c.in-Err.ensures.failed n s st e)

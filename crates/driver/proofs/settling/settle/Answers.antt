@@ -14,9 +14,9 @@ loop-preserved g c = λ n0 is.
     let so_far = c.loop.invariant n0 is in
     gone-further n0 c.args.by c.args.session.now c.loop.session c.evaluate.new.session so_far (c.in_ok-evaluate.ensures n0 so_far.session)
 
-pub returns-then-is_idle : goal.returns-then-is_idle
-returns-then-is_idle g c = λ n0 is.
+pub returns-then-idle : goal.returns-then-idle
+returns-then-idle g c = λ n0 is.
     let so_far = c.loop.invariant n0 is in
-    let idle : is_idle (state_of n0 c.loop.session).work ≡ true = sym (c.if-is_idle.ensures n0 so_far.session) in
+    let idle : is_idle (state_of n0 c.loop.session).work ≡ true = sym (c.if-idle.ensures n0 so_far.session) in
     let last : State = state_of n0 c.loop.session in
     record { gone = so_far; idle = idle; over = idle-none last.book last.work idle }

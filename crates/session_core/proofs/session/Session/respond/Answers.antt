@@ -3,7 +3,7 @@ use Rattle.std.specs.Prelude.{is_some}
 use Rattle.lanes.specs.Changes.{running_eval}
 use Rattle.session_ops.specs.declared.entry.Call.TheVariants.{Respond}
 use Rattle.session_core.specs.Session.{HasAnswered, history_of, entry_of}
-use Rattle.session_core.proofs.SessionLaws.{untouched, on-err}
+use Rattle.session_core.proofs.SessionLaws.{untouched, same-state, on-err}
 use Rattle.session_core.proofs.EvaluationLaws.{responded-session, some-lent}
 use Rattle.session_core.proofs.session.Session.respond.Goals as goal
 
@@ -15,6 +15,9 @@ returns-clause-ok c = λ n0 job is out number means.
     (responded-session n0 s _ c.args.by c.args.eval c.is_some-runs.result c.store.new.self c.in_ok-shown.shown c.args.ran job is out number means c.in_ok-shown.ensures runs
     (subst (λ a. c.push.new.self.items ≡ history_of s ++ entry_of c.args.by (Respond c.args.eval c.in_ok-shown.shown) a ∷ []) c.answer.ensures c.in_ok-push.ensures.items)
     refl refl refl c.store.ensures.work c.sweep.ensures)
+
+pub returns-clause-late : goal.returns-clause-late
+returns-clause-late c = λ n0 job is out number means. same-state n0 c.args.self.now _ c.args.by (Respond c.args.eval c.args.ran.shown) _ (returns-clause-ok c n0 job is out number means)
 
 pub returns-in_err-shown-clause-err : goal.returns-in_err-shown-clause-err
 returns-in_err-shown-clause-err c = λ n0 is. on-err _ _ (untouched n0 c.args.self.now _ is refl refl refl refl refl)
