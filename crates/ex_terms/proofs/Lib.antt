@@ -1,0 +1,5 @@
+pub mod Ordering
+pub mod Equality
+pub mod Sums
+pub mod Quotes
+pub mod Printing
