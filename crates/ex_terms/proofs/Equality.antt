@@ -7,9 +7,9 @@ use Rattle.std.specs.Cmp.Lexicographic.{slice_cmp}
 use Rattle.std.proofs.lemmas.Cmp.{nat_cmp_total, int_cmp_total, nat_list_cmp_total}
 use Rattle.std.proofs.lemmas.Map.Lookups.{exact_bytes, exact_signed}
 use Rattle.ex_terms.specs.declared.values.Value.{Value}
-use Rattle.ex_terms.specs.declared.values.Value.TheVariants.{Int, Atom, Str, Tuple, List as Listed}
 use Rattle.ex_terms.specs.Terms.{Term, Terms, AnInteger, AnAtom, AText, ATuple, AList, NoTerm, OneMore}
-use Rattle.ex_terms.specs.Seen.{term_of}
+use Rattle.ex_terms.specs.Seen.{term_of, value_of}
+use Rattle.ex_terms.proofs.Trees.{is-read}
 use Rattle.ex_terms.specs.Order.{order_of, order_all, number}
 
 then-left : (a b : Ordering) → ordering_then a b ≡ Equal → a ≡ Equal
@@ -74,23 +74,8 @@ mutual
   all-same NoTerm = refl
   all-same (OneMore t ts) = ap (λ o. ordering_then o (order_all ts ts)) (order-same t) ∙ all-same ts
 
--- a value is what its tree says
-abbrev back : Term → Value
-back (AnInteger z) = Int z
-back (AnAtom t) = Atom t
-back (AText t) = Str t
-back (ATuple ts) = Tuple ts
-back (AList ts) = Listed ts
-
-back-is : (v : Value) → back (term_of v) ≡ v
-back-is (Int z) = refl
-back-is (Atom t) = refl
-back-is (Str t) = refl
-back-is (Tuple ts) = refl
-back-is (Listed ts) = refl
-
 pub equal-values : (v w : Value) → order_of (term_of v) (term_of w) ≡ Equal → v ≡ w
-equal-values v w e = sym (back-is v) ∙ (ap back (order-equal (term_of v) (term_of w) e) ∙ back-is w)
+equal-values v w e = sym (is-read v) ∙ (ap value_of (order-equal (term_of v) (term_of w) e) ∙ is-read w)
 
 pub same-place : (v w : Value) → v ≡ w → order_of (term_of v) (term_of w) ≡ Equal
 same-place v w e = ap (λ x. order_of (term_of v) (term_of x)) (sym e) ∙ order-same (term_of v)

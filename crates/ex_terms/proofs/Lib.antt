@@ -1,3 +1,4 @@
+pub mod Trees
 pub mod Ordering
 pub mod Equality
 pub mod Sums

@@ -3,6 +3,7 @@ pub mod Coded
 pub mod Seen
 pub mod Falls
 pub mod Order
+pub mod Keys
 pub mod Sizes
 pub mod Printed
 pub mod Names

@@ -1,6 +1,6 @@
 //! Making, copying and reading the values of a tuple or a list.
 ghost use Rattle.std.specs.Prelude.{◌≡◌, IfOk};
-ghost use Rattle.ex_terms.specs.Seen.{terms_of};
+ghost use Rattle.ex_terms.specs.Seen.{terms_of, values_of};
 ghost use Rattle.ex_terms.specs.Sizes.{sizes_of, capped};
 
 use crate::values::{Items, Value};
@@ -21,7 +21,8 @@ impl Items {
 
     /// The values in their order. Takes no memory.
     pub fn as_slice(&self) -> &[Value]
-        ensures { terms_of result.now ≡ self.now }
+        ensures terms { terms_of result.now ≡ self.now }
+        ensures values { result.now ≡ values_of self.now }
     {
         self.values.as_slice()
     }
@@ -45,8 +46,9 @@ impl Items {
     }
 }
 
-/// The sizes of some values together, or the largest number of 64 bits.
-fn size_together(values: &[Value]) -> u64
+/// The sizes of some values together, or the largest number of 64 bits where that is greater. Takes no
+/// memory, and the same time for each value.
+pub fn size_together(values: &[Value]) -> u64
     ensures { result ≡ capped (sizes_of (terms_of values.now)) }
 {
     let mut size: u64 = 0;

@@ -16,6 +16,7 @@ mod value;
 mod values;
 
 pub use error::DisplayError;
+pub use items::size_together;
 pub use values::{Items, Value};
 
 #[cfg(test)]

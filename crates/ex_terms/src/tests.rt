@@ -93,6 +93,54 @@ fn a_copy_is_equal(rt: HostRuntime) -> Result<(), Fail> {
     Ok(())
 }
 
+/// The sizes of the texts of so many bytes.
+fn sizes_of_texts(alloc: Global, lengths: &[usize]) -> Result<Vec<u64>, AllocError> {
+    let mut sizes = Vec::new(alloc);
+    for length in lengths {
+        let mut bytes = String::new(alloc);
+        for _ in 0..*length {
+            bytes.push_str("a")?;
+        }
+        sizes.push(text(alloc, bytes.as_str())?.size())?;
+    }
+    Ok(sizes)
+}
+
+#[test]
+fn each_sixteen_bytes_are_a_unit(rt: HostRuntime) -> Result<(), Fail> {
+    let sizes = sizes_of_texts(rt.alloc(), &[0, 15, 16, 17, 31, 32])?;
+    let wanted: [u64; 6] = [1, 1, 2, 2, 2, 3];
+    assert!(rt; sizes.as_slice() == wanted.as_slice());
+    Ok(())
+}
+
+/// A list that has the one before it twice, and so on, so many times.
+fn doubled(alloc: Global, times: usize) -> Result<Value, AllocError> {
+    let mut value = list(alloc, &[])?;
+    for _ in 0..times {
+        let mut values = Vec::new(alloc);
+        values.push(value.copy()?)?;
+        values.push(value)?;
+        value = Value::List(Items::of(alloc, values)?);
+    }
+    Ok(value)
+}
+
+#[test]
+fn sizes_end_at_the_largest_number(rt: HostRuntime) -> Result<(), Fail> {
+    let rows = [
+        (2, 7),
+        (62, (1 << 63) - 1),
+        (63, u64::MAX),
+        (64, u64::MAX),
+        (90, u64::MAX),
+    ];
+    for (times, wanted) in rows {
+        assert!(rt; doubled(rt.alloc(), times)?.size() == wanted);
+    }
+    Ok(())
+}
+
 /// A list in a list, and so on, so many times.
 fn nested(alloc: Global, levels: usize) -> Result<Value, AllocError> {
     let mut value = list(alloc, &[])?;

@@ -3,6 +3,10 @@ ghost use Rattle.std.specs.Prelude.{◌≡◌, ◌↔◌, IsTrue, IfOk};
 ghost use Rattle.ex_terms.specs.Seen.{term_of, terms_of};
 ghost use Rattle.ex_terms.specs.Order.{order_of, order_all, order_tuples};
 ghost use Rattle.ex_terms.specs.Sizes.{size_of, capped};
+ghost use Rattle.ex_terms.specs.Keys.{value_cmp, value_total};
+ghost use Rattle.std.specs.Prelude.{refl};
+ghost use Rattle.std.specs.Ordering.{as_partial_cmp, eq_by_cmp};
+ghost use Rattle.std.specs.Cmp.{eq_by_cmp_equiv, partial_equiv_from_equiv, po};
 
 use crate::values::Value;
 use std::alloc::AllocError;
@@ -102,4 +106,44 @@ fn order_items(left: &[Value], right: &[Value]) -> Ordering
         }
     }
     left.len().cmp(&right.len())
+}
+
+/// Equality is that of [`Value::equal`].
+impl PartialEq for Value {
+    ghost eq = { eq_by_cmp value_cmp };
+
+    ghost laws = { partial_equiv_from_equiv (eq_by_cmp_equiv value_total) };
+
+    fn eq(&self, other: &Value) -> bool {
+        self.order(other).is_eq()
+    }
+}
+
+impl Eq for Value {
+    ghost laws = { eq_by_cmp_equiv value_total };
+}
+
+impl PartialOrd for Value {
+    ghost partial_cmp = { as_partial_cmp value_cmp };
+
+    ghost laws = { po value_total (λ v w. refl) };
+
+    fn partial_cmp(&self, other: &Value) -> Option<Ordering> {
+        Some(self.order(other))
+    }
+}
+
+/// The order is that of [`Value::order`].
+impl Ord for Value {
+    ghost cmp = { value_cmp };
+
+    ghost total = { value_total };
+
+    ghost matches_partial_cmp = { λ v w. refl };
+
+    ghost matches_eq = { λ v w. refl };
+
+    fn cmp(&self, other: &Value) -> Ordering {
+        self.order(other)
+    }
 }
