@@ -1,0 +1,4 @@
+pub mod Follows
+pub mod Tries
+pub mod Evaluations
+pub mod Worked
