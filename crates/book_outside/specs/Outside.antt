@@ -1,11 +1,32 @@
 -- What shelves and sinks mean.
-use Rattle.std.specs.Prelude.{◌≡◌, ℕ, ◌+◌, ◌-◌, ◌^◌, ◌≤◌, min, List, ◌++◌, take, find, Option, Some, IfSome}
+use Rattle.std.specs.Prelude.{◌≡◌, ℕ, ◌+◌, ◌-◌, ◌^◌, ◌≤◌, ◌⊎◌, min, Bool, true, false, List, [], ◌∷◌, ◌++◌, take, find, Option, Some, IfSome, Result, Ok, Err}
 use Rattle.std.specs.Option.{option_map}
 use Rattle.std.specs.Str.{bytes_eq}
+use Rattle.book_outside.specs.declared.outside.ShelfError.{ShelfError}
+use Rattle.book_outside.specs.declared.outside.ShelfError.TheVariants.{Failed, OutOfMemory}
+
+-- one more, up to 2^64 - 1
+abbrev pub one_more : ℕ → ℕ
+one_more n = min (n + 1) (2 ^ 64 - 1)
 
 -- a count that stands still at 2^64 - 1 has risen, or stands there
 abbrev pub Rose : ℕ → ℕ → Type 0
-Rose before now = min (before + 1) (2 ^ 64 - 1) ≤ now
+Rose before now = one_more before ≤ now
+
+-- a read of a shelf: the name, and whether the read failed
+pub record Reading : Type 0 where
+  pub name : List ℕ
+  pub failed : Bool
+
+-- one reading more
+abbrev pub with_reading : List Reading → List ℕ → Bool → List Reading
+with_reading readings name failed = readings ++ record { name = name; failed = failed } ∷ []
+
+-- what a read of a name adds to the reads, by its answer: one that failed exactly where the answer is `Failed`; after want of memory one that didn't fail, or none
+abbrev pub IsListed : {A : Type 0} → List Reading → List ℕ → List Reading → Result A ShelfError → Type 0
+IsListed before name now (Ok given) = now ≡ with_reading before name false
+IsListed before name now (Err Failed) = now ≡ with_reading before name true
+IsListed before name now (Err OutOfMemory) = (now ≡ before) ⊎ (now ≡ with_reading before name false)
 
 -- the bytes under a name: those of the first entry that has it
 abbrev pub held_under : List ℕ → List (List ℕ × List ℕ) → Option (List ℕ)

@@ -1,10 +1,11 @@
 //! Files and the standard output. Of their content no meaning is told: that they behave so isn't
 //! proved.
-ghost use Rattle.std.specs.Prelude.{◌≡◌, ◌≤◌, None, is_err, IfOk, OnOk, if◌then◌else◌, OnErr, IsErrOf};
-ghost use Rattle.book_outside.specs.Outside.{Rose, GivesFront, AppendsAll};
-ghost use Rattle.book_outside.specs.Memory.{one_more};
+ghost use Rattle.std.specs.Prelude.{◌≡◌, ◌≤◌, [], map, None, is_err, IfOk, OnOk, if◌then◌else◌, OnErr, IsErrOf};
+ghost use Rattle.book_outside.specs.Outside.{one_more, Rose, IsListed, GivesFront, AppendsAll};
+ghost use Rattle.book_outside.specs.Readings.{reading_of};
 
 use crate::outside::{Shelf, ShelfError, Sink, SinkError};
+use crate::readings::{NamedRead, fail_last, list_read};
 use std::alloc::Global;
 use std::fs::File;
 use std::io;
@@ -16,49 +17,79 @@ use std::rt::Files;
 #[derive(Drop)]
 pub struct HostShelf<'a, R: Files> {
     rt: &'a R,
+    reads: Vec<NamedRead>,
     faults: u64,
 }
 
 impl<'a, R: Files> Model for HostShelf<'a, R> {
-    ghost use Rattle.std.specs.Prelude.{ℕ};
+    ghost use Rattle.std.specs.Prelude.{map};
+    ghost use Rattle.book_outside.specs.Host.{OnFiles};
+    ghost use Rattle.book_outside.specs.Readings.{reading_of};
 
-    ghost Value = { ℕ };
+    ghost Value = { OnFiles };
 
-    ghost view = { λ s. s.faults };
+    ghost view = { λ s. record { readings = map reading_of s.reads.items; faults = s.faults } };
 }
 
-impl<'a, R: Files> HostShelf<'a, R> {
-    /// A shelf that has not failed yet.
+impl<'a, R: Files + AllocGlobal> HostShelf<'a, R> {
+    /// A shelf that was asked for nothing and has not failed yet. Takes no memory.
     pub fn new(rt: &'a R) -> HostShelf<'a, R>
-        ensures { result ≡ 0 }
+        ensures { result ≡ record { readings = []; faults = 0 } }
     {
-        HostShelf { rt, faults: 0 }
+        HostShelf {
+            rt,
+            reads: Vec::new(rt.alloc()),
+            faults: 0,
+        }
     }
 }
 
 impl<R: Files> Shelf for HostShelf<'_, R> {
     ghost held = { λ _. None };
 
-    ghost faults = { λ s. s };
+    ghost reads = { λ s. s.readings };
+
+    ghost faults = { λ s. s.faults };
 
     /// Reads the file of that path. A missing file, a folder and a file that can't be read are
-    /// faults.
+    /// faults. Where there is no memory to list the read, no file is touched.
     fn read(&mut self, alloc: Global, name: &str, most: u64) -> Result<Vec<u8>, ShelfError>
         // It isn't told what is held, so nothing is said of the bytes.
         ensures untold { IfOk result (λ bytes. GivesFront None name.now most bytes.items) }
-        ensures faults { self.new ≡ (if is_err result then one_more self.old else self.old) }
-        ensures counts { self.old ≤ self.new }
-        ensures failed { IsErrOf result ShelfError.Failed → Rose self.old self.new }
+        ensures listed { IsListed self.old.readings name.now self.new.readings result }
+        ensures faults { self.new.faults ≡ (if is_err result then one_more self.old.faults else self.old.faults) }
+        ensures counts { self.old.faults ≤ self.new.faults }
+        ensures failed { IsErrOf result ShelfError.Failed → Rose self.old.faults self.new.faults }
     {
-        match file_front(self.rt, alloc, name, most) {
+        match listed_front(self.rt, &mut self.reads, alloc, name, most) {
             Ok(bytes) => Ok(bytes),
             Err(error) => {
                 self.faults = self.faults.saturating_add(1);
-                if error.kind() == ErrorKind::OutOfMemory {
-                    return Err(ShelfError::OutOfMemory);
-                }
-                Err(ShelfError::Failed)
+                Err(error)
             }
+        }
+    }
+}
+
+/// Lists the read of a file, and gives its first `most` bytes, or all where there are fewer.
+fn listed_front<R: Files>(
+    rt: &R,
+    reads: &mut Vec<NamedRead>,
+    alloc: Global,
+    path: &str,
+    most: u64,
+) -> Result<Vec<u8>, ShelfError>
+    ensures { IsListed (map reading_of reads.old.items) path.now (map reading_of reads.new.items) result }
+{
+    list_read(reads, alloc, path)?;
+    match file_front(rt, alloc, path, most) {
+        Ok(bytes) => Ok(bytes),
+        Err(error) => {
+            if error.kind() == ErrorKind::OutOfMemory {
+                return Err(ShelfError::OutOfMemory);
+            }
+            fail_last(reads);
+            Err(ShelfError::Failed)
         }
     }
 }
@@ -74,40 +105,49 @@ fn file_front<R: Files>(rt: &R, alloc: Global, path: &str, most: u64) -> io::Res
 #[derive(Drop)]
 pub struct HostSink<'a, R: Print> {
     rt: &'a R,
+    calls: u64,
     faults: u64,
 }
 
 impl<'a, R: Print> Model for HostSink<'a, R> {
-    ghost use Rattle.std.specs.Prelude.{ℕ};
+    ghost use Rattle.book_outside.specs.Host.{OnOutput};
 
-    ghost Value = { ℕ };
+    ghost Value = { OnOutput };
 
-    ghost view = { λ s. s.faults };
+    ghost view = { λ s. record { calls = s.calls; faults = s.faults } };
 }
 
 impl<'a, R: Print> HostSink<'a, R> {
-    /// A sink that has not failed yet.
+    /// A sink that was asked for nothing and has not failed yet.
     pub fn new(rt: &'a R) -> HostSink<'a, R>
-        ensures { result ≡ 0 }
+        ensures { result ≡ record { calls = 0; faults = 0 } }
     {
-        HostSink { rt, faults: 0 }
+        HostSink {
+            rt,
+            calls: 0,
+            faults: 0,
+        }
     }
 }
 
 impl<R: Print> Sink for HostSink<'_, R> {
     ghost written = { λ _. None };
 
-    ghost faults = { λ s. s };
+    ghost writes = { λ s. s.calls };
+
+    ghost faults = { λ s. s.faults };
 
     /// Writes to the standard output. A closed one and a full disk are faults.
     fn write(&mut self, bytes: &[u8]) -> Result<(), SinkError>
         // It isn't told what is written, so nothing is said of the bytes.
         ensures untold { OnOk result (AppendsAll None bytes.now None) }
-        ensures faults { self.new ≡ (if is_err result then one_more self.old else self.old) }
+        ensures asked { self.new.calls ≡ one_more self.old.calls }
+        ensures faults { self.new.faults ≡ (if is_err result then one_more self.old.faults else self.old.faults) }
         ensures never_memory { OnErr result (IsErrOf result SinkError.Failed) }
-        ensures counts { self.old ≤ self.new }
-        ensures failed { IsErrOf result SinkError.Failed → Rose self.old self.new }
+        ensures counts { self.old.faults ≤ self.new.faults }
+        ensures failed { IsErrOf result SinkError.Failed → Rose self.old.faults self.new.faults }
     {
+        self.calls = self.calls.saturating_add(1);
         match self.rt.write_all(bytes) {
             Ok(()) => Ok(()),
             Err(_) => {

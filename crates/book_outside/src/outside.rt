@@ -1,6 +1,6 @@
 //! Shelves and sinks, by what they hold and how often they have failed.
 ghost use Rattle.std.specs.Prelude.{◌≡◌, ◌≤◌, ◌++◌, ℕ, List, Option, Some, IfOk, OnOk, IfSome, IsErrOf};
-ghost use Rattle.book_outside.specs.Outside.{Rose, GivesFront, AppendsAll, AppendsFront};
+ghost use Rattle.book_outside.specs.Outside.{Reading, IsListed, one_more, Rose, GivesFront, AppendsAll, AppendsFront};
 ghost use Rattle.book_outside.specs.declared.outside.ShelfError.TheVariants.{OutOfMemory as ShelfMemory};
 ghost use Rattle.book_outside.specs.declared.outside.SinkError.TheVariants.{OutOfMemory as SinkMemory};
 
@@ -51,13 +51,20 @@ pub trait Shelf {
     /// name the first counts.
     ghost held: { Self → Option (List (List ℕ × List ℕ)) };
 
+    /// The reads so far in order, each with its name and whether it failed.
+    ghost reads: { Self → List Reading };
+
     /// How often the shelf has failed. It stands still at 2^64 - 1, and counts as risen there.
     ghost faults: { Self → ℕ };
 
     /// The first `most` bytes of what is held under the name, or all where there are fewer.
+    ///
+    /// The read is listed under its name, as failed exactly after `Failed`. After want of memory it is
+    /// listed as one that didn't fail, or not at all.
     fn read(&mut self, alloc: Global, name: &str, most: u64) -> Result<Vec<u8>, ShelfError>
         ensures front { IfOk result (λ bytes. GivesFront (held self.old) name.now most bytes.items) }
         ensures same { held self.new ≡ held self.old }
+        ensures listed { IsListed (reads self.old) name.now (reads self.new) result }
         ensures counts { faults self.old ≤ faults self.new }
         ensures failed { IsErrOf result ShelfError.Failed → Rose (faults self.old) (faults self.new) };
 }
@@ -66,6 +73,9 @@ pub trait Shelf {
 pub trait Sink {
     /// The bytes that were written, where the sink tells it.
     ghost written: { Self → Option (List ℕ) };
+
+    /// How many writes the sink was asked for. It stands still at 2^64 - 1.
+    ghost writes: { Self → ℕ };
 
     /// How often the sink has failed. It stands still at 2^64 - 1, and counts as risen there.
     ghost faults: { Self → ℕ };
@@ -76,6 +86,7 @@ pub trait Sink {
         ensures appended { OnOk result (AppendsAll (written self.old) bytes.now (written self.new)) }
         ensures part { IsErrOf result SinkError.Failed → AppendsFront (written self.old) bytes.now (written self.new) }
         ensures memory { IsErrOf result SinkError.OutOfMemory → written self.new ≡ written self.old }
+        ensures asked { writes self.new ≡ one_more (writes self.old) }
         ensures counts { faults self.old ≤ faults self.new }
         ensures failed { IsErrOf result SinkError.Failed → Rose (faults self.old) (faults self.new) };
 }

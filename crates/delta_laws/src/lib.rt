@@ -144,6 +144,3 @@ fn applied(alloc: Global, delta: &Delta, text: &Text) -> Result<Text, AllocError
         Err(ApplyError::PastEnd { .. } | ApplyError::SplitsPair { .. }) => unreachable!(),
     }
 }
-
-#[cfg(test)]
-mod tests;

@@ -1,6 +1,6 @@
 -- From the parts' answers to the program's.
-use Rattle.std.proofs.Common.{◌≡◌, ◌≢◌, ℕ, ◌≤◌, ◌<◌, inl, inr, length, get_or, OnOk, List, [], ◌∷◌, map, Option, Some, None, Result, Ok, Err, refl, sym, subst, arith}
-use Rattle.book_outside.specs.Outside.{Rose, GivesFront}
+use Rattle.std.proofs.Common.{◌≡◌, ◌≢◌, ℕ, ◌≤◌, ◌<◌, inl, inr, length, get_or, OnOk, Bool, false, true, List, [], ◌∷◌, map, Option, Some, None, Result, Ok, Err, refl, sym, ap, subst, ◌∙◌, arith}
+use Rattle.book_outside.specs.Outside.{Rose, GivesFront, with_reading}
 use Rattle.livemd_read.specs.declared.types.Read.{Read}
 use Rattle.livemd_read.specs.declared.types.BookError.{BookError}
 use Rattle.livemd_read.specs.declared.types.BookError.TheVariants.{OutOfMemory as BookMemory}
@@ -16,108 +16,125 @@ use Rattle.driver.specs.declared.play.Played.TheVariants.{Done, SinkFailed as Pl
 use Rattle.driver.specs.Ends.{IsPlayedSo}
 use Rattle.driver.specs.Lines.{notice_line}
 use Rattle.script.proofs.Fronts.{cause-none}
-use Rattle.driver.specs.Program.{IsPlay, IsFormat, NamesBook, IsAnswer, IsFormatAnswer, IsComplete, AreAcceptable, BookIsAccepted, ScriptIsAccepted, format_words}
-use Rattle.driver.specs.Answers.{IsBookAnswer, IsScriptAnswer, IsWriting, HasReadBook, outcome_of}
+use Rattle.driver.specs.Around.{Input, Around}
+use Rattle.driver.specs.Program.{IsPlay, IsFormat, NamesBook, IsAnswer, IsFormatAnswer, IsComplete, BookIsAccepted, ScriptIsAccepted, BothWereRead, format_words, most_bytes}
+use Rattle.driver.specs.Answers.{BytesAreBook, BytesAreScript, IsBookAnswer, IsScriptAnswer, IsWriting, HasReadBook, outcome_of}
 
 pub rose-later : (old mid new : ℕ) → old ≤ mid → Rose mid new → Rose old new
 rose-later old mid new le r = omega (arith, le, r)
 
+-- bytes that were read under a name, and what they are
+pub book-given : (held : Option (List (List ℕ × List ℕ))) (name bytes : List ℕ) (before after : Input) (r : Result Read RunFault) → GivesFront held name most_bytes bytes → after.readings ≡ with_reading before.readings name false → BytesAreBook bytes r
+    → IsBookAnswer held name before after r
+book-given held name bytes before after (Ok r) f e h = record { bytes = bytes; front = f; reads = e; so = h }
+book-given held name bytes before after (Err Usage) f e h = absurd h
+book-given held name bytes before after (Err BookUnread) f e h = absurd h
+book-given held name bytes before after (Err (BookRefused why)) f e h = record { bytes = bytes; front = f; reads = e; so = h }
+book-given held name bytes before after (Err ScriptUnread) f e h = absurd h
+book-given held name bytes before after (Err (ScriptRefused why)) f e h = absurd h
+book-given held name bytes before after (Err SinkFailed) f e h = absurd h
+book-given held name bytes before after (Err OutOfMemory) f e h = tt
+
+pub script-given : (held : Option (List (List ℕ × List ℕ))) (name bytes : List ℕ) (before after : Input) (r : Result Content RunFault) → GivesFront held name most_bytes bytes → after.readings ≡ with_reading before.readings name false → BytesAreScript bytes r
+    → IsScriptAnswer held name before after r
+script-given held name bytes before after (Ok s) f e h = record { bytes = bytes; front = f; reads = e; so = h }
+script-given held name bytes before after (Err Usage) f e h = absurd h
+script-given held name bytes before after (Err BookUnread) f e h = absurd h
+script-given held name bytes before after (Err (BookRefused why)) f e h = absurd h
+script-given held name bytes before after (Err ScriptUnread) f e h = absurd h
+script-given held name bytes before after (Err (ScriptRefused why)) f e h = record { bytes = bytes; front = f; reads = e; so = h }
+script-given held name bytes before after (Err SinkFailed) f e h = absurd h
+script-given held name bytes before after (Err OutOfMemory) f e h = tt
+
 -- a book that couldn't be read or was refused
-pub book-ended : (words : List (List ℕ)) (held : Option (List (List ℕ × List ℕ))) (book : List ℕ) (sf sf' kf kf' : ℕ) (w : Option (List ℕ)) (fault : RunFault) → NamesBook words book → IsBookAnswer held book sf sf' (Err fault) → IsAnswer words held sf sf' kf kf' w w None (Some fault)
-book-ended words held book sf sf' kf kf' w Usage form h = absurd h
-book-ended words held book sf sf' kf kf' w BookUnread form h = (record { form = (book, form); rose = h; unwritten = refl }, refl)
-book-ended words held book sf sf' kf kf' w (BookRefused why) form h = (record { read = record { book = book; named = form; bytes = h.0; front = h.1.0 }; cause = h.1.1.0; named = h.1.1.1; unwritten = refl }, refl)
-book-ended words held book sf sf' kf kf' w ScriptUnread form h = absurd h
-book-ended words held book sf sf' kf kf' w (ScriptRefused why) form h = absurd h
-book-ended words held book sf sf' kf kf' w SinkFailed form h = absurd h
-book-ended words held book sf sf' kf kf' w OutOfMemory form h = refl
+pub book-ended : (words : List (List ℕ)) (a : Around) (book : List ℕ) (fault : RunFault) → NamesBook words book → IsBookAnswer a.held book a.shelf_before a.shelf_after (Err fault) → a.sink_after ≡ a.sink_before → IsAnswer words a None (Some fault)
+book-ended words a book Usage form h e = absurd h
+book-ended words a book BookUnread form h e = (record { book = book; form = form; reads = h.reads; rose = h.rose; unwritten = e }, refl)
+book-ended words a book (BookRefused why) form h e = (record { read = record { book = book; named = form; bytes = h.bytes; front = h.front }; reads = h.reads; cause = h.so.0; named = h.so.1; unwritten = e }, refl)
+book-ended words a book ScriptUnread form h e = absurd h
+book-ended words a book (ScriptRefused why) form h e = absurd h
+book-ended words a book SinkFailed form h e = absurd h
+book-ended words a book OutOfMemory form h e = refl
 
 -- a book that is refused is not accepted: no status but 2, 3 and 7 can come
 pub refused-not-accepted : (bytes : List ℕ) (why : BookError) → IsBookCause bytes why → why ≢ BookMemory → ¬ IsAccepted bytes
 refused-not-accepted bytes why cause named accepted = named (accepted_cause bytes why accepted cause)
 
 -- a book that was read is accepted
-abbrev book-accepted : (words : List (List ℕ)) (held : Option (List (List ℕ × List ℕ))) (book : List ℕ) (sf sf' : ℕ) (r : Read) → NamesBook words book → IsBookAnswer held book sf sf' (Ok r) → BookIsAccepted words held
-book-accepted words held book sf sf' r form h = record { read = record { book = book; named = form; bytes = h.0; front = h.1.0 }; accepted = h.1.1.0; notebook = r.notebook; notices = r.notices; reads = h.1.1.1 }
+abbrev book-accepted : (words : List (List ℕ)) (held : Option (List (List ℕ × List ℕ))) (book : List ℕ) (before after : Input) (r : Read) → NamesBook words book → IsBookAnswer held book before after (Ok r) → BookIsAccepted words held
+book-accepted words held book before after r form h = record { read = record { book = book; named = form; bytes = h.bytes; front = h.front }; accepted = h.so.0; notebook = r.notebook; notices = r.notices; reads = h.so.1 }
 
 -- a book that was read, to be played over
-pub book-read : (words : List (List ℕ)) (held : Option (List (List ℕ × List ℕ))) (book script : List ℕ) (sf sf' : ℕ) (r : Read) → IsPlay words book script → IsBookAnswer held book sf sf' (Ok r) → HasReadBook words held script r
-book-read words held book script sf sf' r form h = record { accepted = book-accepted words held book sf sf' r (inl (script, form)) h; form = form; notebook = refl; notices = refl }
+pub book-read : (words : List (List ℕ)) (held : Option (List (List ℕ × List ℕ))) (book script : List ℕ) (before after : Input) (r : Read) → IsPlay words book script → IsBookAnswer held book before after (Ok r) → before.faults ≤ after.faults → HasReadBook words held script r before after
+book-read words held book script before after r form h le = record { accepted = book-accepted words held book before after r (inl (script, form)) h; form = form; notebook = refl; notices = refl; reads = h.reads; counts = le }
+
+-- a script that was read behind its book
+both-read : (words : List (List ℕ)) (a : Around) (mid : Input) (script : List ℕ) (r : Read) (failed : Bool) → (b : HasReadBook words a.held script r a.shelf_before mid) → a.shelf_after.readings ≡ with_reading mid.readings script failed → BothWereRead a b.accepted.read.book script failed
+both-read words a mid script r failed b e = e ∙ ap (λ rs. with_reading rs script failed) b.reads
 
 -- a script that couldn't be read or was refused
-pub script-ended : (words : List (List ℕ)) (held : Option (List (List ℕ × List ℕ))) (script : List ℕ) (r : Read) (sf sf' kf kf' : ℕ) (w : Option (List ℕ)) (fault : RunFault) → HasReadBook words held script r → IsScriptAnswer held script sf sf' (Err fault) → IsAnswer words held sf sf' kf kf' w w None (Some fault)
-script-ended words held script r sf sf' kf kf' w Usage b h = absurd h
-script-ended words held script r sf sf' kf kf' w BookUnread b h = absurd h
-script-ended words held script r sf sf' kf kf' w (BookRefused why) b h = absurd h
-script-ended words held script r sf sf' kf kf' w ScriptUnread b h = (record { accepted = b.accepted; form = (script, b.form); rose = h; unwritten = refl }, refl)
-script-ended words held script r sf sf' kf kf' w (ScriptRefused why) b h = (record { read = record { accepted = b.accepted; script = script; form = b.form; bytes = h.0; front = h.1.0 }; cause = h.1.1.0; named = h.1.1.1; unwritten = refl }, refl)
-script-ended words held script r sf sf' kf kf' w SinkFailed b h = absurd h
-script-ended words held script r sf sf' kf kf' w OutOfMemory b h = refl
+pub script-ended : (words : List (List ℕ)) (a : Around) (mid : Input) (script : List ℕ) (r : Read) (fault : RunFault) → HasReadBook words a.held script r a.shelf_before mid → IsScriptAnswer a.held script mid a.shelf_after (Err fault) → a.sink_after ≡ a.sink_before
+    → IsAnswer words a None (Some fault)
+script-ended words a mid script r Usage b h e = absurd h
+script-ended words a mid script r BookUnread b h e = absurd h
+script-ended words a mid script r (BookRefused why) b h e = absurd h
+script-ended words a mid script r ScriptUnread b h e =
+    (record { accepted = b.accepted; script = script; form = b.form; reads = both-read words a mid script r true b h.reads; rose = rose-later a.shelf_before.faults mid.faults a.shelf_after.faults b.counts h.rose; unwritten = e }, refl)
+script-ended words a mid script r (ScriptRefused why) b h e =
+    (record { read = record { accepted = b.accepted; script = script; form = b.form; bytes = h.bytes; front = h.front }; reads = both-read words a mid script r false b h.reads; cause = h.so.0; named = h.so.1; unwritten = e }, refl)
+script-ended words a mid script r SinkFailed b h e = absurd h
+script-ended words a mid script r OutOfMemory b h e = refl
 
 -- what was played
-pub play-answered : (words : List (List ℕ)) (held : Option (List (List ℕ × List ℕ))) (script : List ℕ) (r : Read) (content : Content) (sf sf' kf kf' : ℕ) (w w' : Option (List ℕ)) (played : Played) → HasReadBook words held script r → IsScriptAnswer held script sf sf' (Ok content)
-    → IsPlayedSo r.notebook (map notice_line r.notices) content kf kf' w w' played → IsAnswer words held sf sf' kf kf' w w' (outcome_of played).report (outcome_of played).fault
-play-answered words held script r content sf sf' kf kf' w w' (Done report) b h p =
-    let accepted : ScriptIsAccepted words held = record { read = record { accepted = b.accepted; script = script; form = b.form; bytes = h.0; front = h.1.0 }; content = content; is = h.1.1 } in
-    inl (record { accepted = accepted; told = report; report = refl; text = p.text; played = rw (b.notices, b.notebook) p.played; written = p.written })
-play-answered words held script r content sf sf' kf kf' w w' (PlayCut report) b h p =
-    let accepted : ScriptIsAccepted words held = record { read = record { accepted = b.accepted; script = script; form = b.form; bytes = h.0; front = h.1.0 }; content = content; is = h.1.1 } in
-    inl (record { accepted = accepted; rose = p.rose; told = report; report = refl; cut = rw (b.notices, b.notebook) p.cut })
-play-answered words held script r content sf sf' kf kf' w w' PlayMemory b h p = refl
-
--- counts that rose later have risen
-answer-at : (words : List (List ℕ)) (held : Option (List (List ℕ × List ℕ))) (sf mid sf' kf kf' : ℕ) (w w' : Option (List ℕ)) (report : Option Report) (fault : Option RunFault) → sf ≤ mid → IsAnswer words held mid sf' kf kf' w w' report fault → IsAnswer words held sf sf' kf kf' w w' report fault
-answer-at words held sf mid sf' kf kf' w w' report None le h = h
-answer-at words held sf mid sf' kf kf' w w' report (Some Usage) le h = h
-answer-at words held sf mid sf' kf kf' w w' report (Some BookUnread) le h = (record { form = h.0.form; rose = rose-later sf mid sf' le h.0.rose; unwritten = h.0.unwritten }, h.1)
-answer-at words held sf mid sf' kf kf' w w' report (Some (BookRefused why)) le h = h
-answer-at words held sf mid sf' kf kf' w w' report (Some ScriptUnread) le h = (record { accepted = h.0.accepted; form = h.0.form; rose = rose-later sf mid sf' le h.0.rose; unwritten = h.0.unwritten }, h.1)
-answer-at words held sf mid sf' kf kf' w w' report (Some (ScriptRefused why)) le h = h
-answer-at words held sf mid sf' kf kf' w w' report (Some SinkFailed) le h = h
-answer-at words held sf mid sf' kf kf' w w' report (Some OutOfMemory) le h = h
-
-pub answer-earlier : (words : List (List ℕ)) (held held' : Option (List (List ℕ × List ℕ))) (sf mid sf' kf kf' : ℕ) (w w' : Option (List ℕ)) (report : Option Report) (fault : Option RunFault) → held' ≡ held → sf ≤ mid → IsAnswer words held' mid sf' kf kf' w w' report fault → IsAnswer words held sf sf' kf kf' w w' report fault
-answer-earlier words held held' sf mid sf' kf kf' w w' report fault e le h = answer-at words held sf mid sf' kf kf' w w' report fault le (subst (λ x. IsAnswer words x mid sf' kf kf' w w' report fault) e h)
+pub play-answered : (words : List (List ℕ)) (a : Around) (mid : Input) (script : List ℕ) (r : Read) (content : Content) (played : Played) → HasReadBook words a.held script r a.shelf_before mid → IsScriptAnswer a.held script mid a.shelf_after (Ok content)
+    → IsPlayedSo r.notebook (map notice_line r.notices) content a.sink_before a.sink_after played → IsAnswer words a (outcome_of played).report (outcome_of played).fault
+play-answered words a mid script r content (Done report) b h p =
+    let accepted : ScriptIsAccepted words a.held = record { read = record { accepted = b.accepted; script = script; form = b.form; bytes = h.bytes; front = h.front }; content = content; is = h.so } in
+    inl (record { accepted = accepted; reads = both-read words a mid script r false b h.reads; told = report; report = refl; pieces = p.pieces; played = rw (b.notices, b.notebook) p.played; written = p.written })
+play-answered words a mid script r content (PlayCut report) b h p =
+    let accepted : ScriptIsAccepted words a.held = record { read = record { accepted = b.accepted; script = script; form = b.form; bytes = h.bytes; front = h.front }; content = content; is = h.so } in
+    inl (record { accepted = accepted; reads = both-read words a mid script r false b h.reads; rose = p.rose; told = report; report = refl; cut = rw (b.notices, b.notebook) p.cut })
+play-answered words a mid script r content PlayMemory b h p = refl
 
 -- words in no form
-pub words-ended : (words : List (List ℕ)) (held : Option (List (List ℕ × List ℕ))) (sf sf' kf kf' : ℕ) (w : Option (List ℕ)) → ((book script : List ℕ) → ¬ IsPlay words book script) → ((book : List ℕ) → ¬ IsFormat words book) → IsAnswer words held sf sf' kf kf' w w None (Some Usage)
-words-ended words held sf sf' kf kf' w h k = (record { no_play = h; no_format = k; unwritten = refl }, refl)
+pub words-ended : (words : List (List ℕ)) (a : Around) → ((book script : List ℕ) → ¬ IsPlay words book script) → ((book : List ℕ) → ¬ IsFormat words book) → a.shelf_after ≡ a.shelf_before → a.sink_after ≡ a.sink_before → IsAnswer words a None (Some Usage)
+words-ended words a h k es ek = (record { no_play = h; no_format = k; reads = ap (λ shelf. shelf.readings) es; unwritten = ek }, refl)
 
 -- a book to be formatted that couldn't be read or was refused
-pub format-ended : (held : Option (List (List ℕ × List ℕ))) (book : List ℕ) (sf sf' kf kf' : ℕ) (w : Option (List ℕ)) (fault : RunFault) → IsBookAnswer held book sf sf' (Err fault) → IsFormatAnswer book held sf sf' kf kf' w w None (Some fault)
-format-ended held book sf sf' kf kf' w Usage h = absurd h
-format-ended held book sf sf' kf kf' w BookUnread h = (record { form = (book, inr refl); rose = h; unwritten = refl }, refl)
-format-ended held book sf sf' kf kf' w (BookRefused why) h = (record { read = record { book = book; named = inr refl; bytes = h.0; front = h.1.0 }; cause = h.1.1.0; named = h.1.1.1; unwritten = refl }, refl)
-format-ended held book sf sf' kf kf' w ScriptUnread h = absurd h
-format-ended held book sf sf' kf kf' w (ScriptRefused why) h = absurd h
-format-ended held book sf sf' kf kf' w SinkFailed h = absurd h
-format-ended held book sf sf' kf kf' w OutOfMemory h = refl
+pub format-ended : (a : Around) (book : List ℕ) (fault : RunFault) → IsBookAnswer a.held book a.shelf_before a.shelf_after (Err fault) → a.sink_after ≡ a.sink_before → IsFormatAnswer book a None (Some fault)
+format-ended a book Usage h e = absurd h
+format-ended a book BookUnread h e = (record { book = book; form = inr refl; reads = h.reads; rose = h.rose; unwritten = e }, refl)
+format-ended a book (BookRefused why) h e = (record { read = record { book = book; named = inr refl; bytes = h.bytes; front = h.front }; reads = h.reads; cause = h.so.0; named = h.so.1; unwritten = e }, refl)
+format-ended a book ScriptUnread h e = absurd h
+format-ended a book (ScriptRefused why) h e = absurd h
+format-ended a book SinkFailed h e = absurd h
+format-ended a book OutOfMemory h e = refl
 
 -- a book that was read, and whose tidy form was to be written
-pub format-written : (held : Option (List (List ℕ × List ℕ))) (book : List ℕ) (r : Read) (sf sf' kf kf' : ℕ) (w w' : Option (List ℕ)) (report : Option Report) (fault : Option RunFault) → IsBookAnswer held book sf sf' (Ok r) → report ≡ None → IsWriting r.notebook kf kf' w w' fault
-    → IsFormatAnswer book held sf sf' kf kf' w w' report fault
-format-written held book r sf sf' kf kf' w w' report None h e x = record { accepted = book-accepted (format_words book) held book sf sf' r (inr refl) h; form = refl; report = e; written = x }
-format-written held book r sf sf' kf kf' w w' report (Some Usage) h e x = absurd x
-format-written held book r sf sf' kf kf' w w' report (Some BookUnread) h e x = absurd x
-format-written held book r sf sf' kf kf' w w' report (Some (BookRefused why)) h e x = absurd x
-format-written held book r sf sf' kf kf' w w' report (Some ScriptUnread) h e x = absurd x
-format-written held book r sf sf' kf kf' w w' report (Some (ScriptRefused why)) h e x = absurd x
-format-written held book r sf sf' kf kf' w w' report (Some SinkFailed) h e x = record { accepted = book-accepted (format_words book) held book sf sf' r (inr refl) h; form = refl; rose = x.0; report = e; written = x.1 }
-format-written held book r sf sf' kf kf' w w' report (Some OutOfMemory) h e x = e
+pub format-written : (a : Around) (book : List ℕ) (r : Read) (report : Option Report) (fault : Option RunFault) → IsBookAnswer a.held book a.shelf_before a.shelf_after (Ok r) → report ≡ None → IsWriting r.notebook a.sink_before a.sink_after fault
+    → IsFormatAnswer book a report fault
+format-written a book r report None h e x = record { accepted = book-accepted (format_words book) a.held book a.shelf_before a.shelf_after r (inr refl) h; form = refl; reads = h.reads; report = e; written = x }
+format-written a book r report (Some Usage) h e x = absurd x
+format-written a book r report (Some BookUnread) h e x = absurd x
+format-written a book r report (Some (BookRefused why)) h e x = absurd x
+format-written a book r report (Some ScriptUnread) h e x = absurd x
+format-written a book r report (Some (ScriptRefused why)) h e x = absurd x
+format-written a book r report (Some SinkFailed) h e x = record { accepted = book-accepted (format_words book) a.held book a.shelf_before a.shelf_after r (inr refl) h; form = refl; reads = h.reads; rose = x.0; report = e; written = x.1 }
+format-written a book r report (Some OutOfMemory) h e x = e
 
 -- what formatting answers, the program answers to the words
-format-told : (held : Option (List (List ℕ × List ℕ))) (book : List ℕ) (sf sf' kf kf' : ℕ) (w w' : Option (List ℕ)) (report : Option Report) (fault : Option RunFault) → IsFormatAnswer book held sf sf' kf kf' w w' report fault → IsAnswer (format_words book) held sf sf' kf kf' w w' report fault
-format-told held book sf sf' kf kf' w w' report None h = inr h
-format-told held book sf sf' kf kf' w w' report (Some Usage) h = absurd h
-format-told held book sf sf' kf kf' w w' report (Some BookUnread) h = h
-format-told held book sf sf' kf kf' w w' report (Some (BookRefused why)) h = h
-format-told held book sf sf' kf kf' w w' report (Some ScriptUnread) h = absurd h
-format-told held book sf sf' kf kf' w w' report (Some (ScriptRefused why)) h = absurd h
-format-told held book sf sf' kf kf' w w' report (Some SinkFailed) h = inr h
-format-told held book sf sf' kf kf' w w' report (Some OutOfMemory) h = h
+format-told : (a : Around) (book : List ℕ) (report : Option Report) (fault : Option RunFault) → IsFormatAnswer book a report fault → IsAnswer (format_words book) a report fault
+format-told a book report None h = inr h
+format-told a book report (Some Usage) h = absurd h
+format-told a book report (Some BookUnread) h = h
+format-told a book report (Some (BookRefused why)) h = h
+format-told a book report (Some ScriptUnread) h = absurd h
+format-told a book report (Some (ScriptRefused why)) h = absurd h
+format-told a book report (Some SinkFailed) h = inr h
+format-told a book report (Some OutOfMemory) h = h
 
-pub format-answered : (words : List (List ℕ)) (held : Option (List (List ℕ × List ℕ))) (book : List ℕ) (sf sf' kf kf' : ℕ) (w w' : Option (List ℕ)) (report : Option Report) (fault : Option RunFault) → IsFormat words book → IsFormatAnswer book held sf sf' kf kf' w w' report fault → IsAnswer words held sf sf' kf kf' w w' report fault
-format-answered words held book sf sf' kf kf' w w' report fault form h = subst (λ ws. IsAnswer ws held sf sf' kf kf' w w' report fault) (sym form) (format-told held book sf sf' kf kf' w w' report fault h)
+pub format-answered : (words : List (List ℕ)) (a : Around) (book : List ℕ) (report : Option Report) (fault : Option RunFault) → IsFormat words book → IsFormatAnswer book a report fault → IsAnswer words a report fault
+format-answered words a book report fault form h = subst (λ ws. IsAnswer ws a report fault) (sym form) (format-told a book report fault h)
 
 -- words that name a book are in a form
 no-form : (words : List (List ℕ)) (book : List ℕ) → NamesBook words book → ((book script : List ℕ) → ¬ IsPlay words book script) → ((book : List ℕ) → ¬ IsFormat words book) → ⊥
@@ -125,21 +142,21 @@ no-form words book (inl play) h k = h book play.0 play.1
 no-form words book (inr form) h k = k book form
 
 -- where nothing can be refused and no count rose, all was done
-pub complete : (words : List (List ℕ)) (held : Option (List (List ℕ × List ℕ))) (sf sf' kf kf' : ℕ) (w w' : Option (List ℕ)) (report : Option Report) (fault : Option RunFault) → IsAnswer words held sf sf' kf kf' w w' report fault → IsComplete words held sf sf' kf kf' fault
-complete words held sf sf' kf kf' w w' report None h good shelf sink = inl refl
-complete words held sf sf' kf kf' w w' report (Some Usage) h good shelf sink = absurd (no-form words good.form.0 good.form.1 h.0.no_play h.0.no_format)
-complete words held sf sf' kf kf' w w' report (Some BookUnread) h good shelf sink = absurd (shelf h.0.rose)
-complete words held sf sf' kf kf' w w' report (Some (BookRefused why)) h good shelf sink =
+pub complete : (words : List (List ℕ)) (a : Around) (report : Option Report) (fault : Option RunFault) → IsAnswer words a report fault → IsComplete words a fault
+complete words a report None h good shelf sink = inl refl
+complete words a report (Some Usage) h good shelf sink = absurd (no-form words good.form.0 good.form.1 h.0.no_play h.0.no_format)
+complete words a report (Some BookUnread) h good shelf sink = absurd (shelf h.0.rose)
+complete words a report (Some (BookRefused why)) h good shelf sink =
     let r = h.0.read in
     absurd (refused-not-accepted r.bytes why h.0.cause h.0.named (good.books r.book r.bytes r.named r.front))
-complete words held sf sf' kf kf' w w' report (Some ScriptUnread) h good shelf sink = absurd (shelf h.0.rose)
-complete words held sf sf' kf kf' w w' report (Some (ScriptRefused why)) h good shelf sink =
+complete words a report (Some ScriptUnread) h good shelf sink = absurd (shelf h.0.rose)
+complete words a report (Some (ScriptRefused why)) h good shelf sink =
     let r = h.0.read in
     let is = good.scripts r.accepted.read.book r.script r.bytes r.form r.front in
     absurd (cause-none r.bytes why h.0.cause h.0.named is.0 is.1)
-complete words held sf sf' kf kf' w w' report (Some SinkFailed) (inl x) good shelf sink = absurd (sink x.rose)
-complete words held sf sf' kf kf' w w' report (Some SinkFailed) (inr x) good shelf sink = absurd (sink x.rose)
-complete words held sf sf' kf kf' w w' report (Some OutOfMemory) h good shelf sink = inr refl
+complete words a report (Some SinkFailed) (inl x) good shelf sink = absurd (sink x.rose)
+complete words a report (Some SinkFailed) (inr x) good shelf sink = absurd (sink x.rose)
+complete words a report (Some OutOfMemory) h good shelf sink = inr refl
 
 -- a list of two
 pub two : {A B : Type 0} → (f : A → B) (d e : A) (xs : List A) → 2 ≤ length xs → length xs < 3 → map f xs ≡ f (get_or xs 0 d) ∷ f (get_or xs 1 e) ∷ []

@@ -1,6 +1,6 @@
 -- What the parts of the program answer.
-use Rattle.std.specs.Prelude.{◌≡◌, ◌≢◌, ℕ, List, Option, Some, None, Result, Ok, Err}
-use Rattle.book_outside.specs.Outside.{Rose, GivesFront, AppendsAll, AppendsFront}
+use Rattle.std.specs.Prelude.{◌≡◌, ◌≢◌, ℕ, ◌≤◌, true, false, List, Option, Some, None, Result, Ok, Err}
+use Rattle.book_outside.specs.Outside.{Rose, GivesFront, with_reading}
 use Rattle.notebook.specs.declared.parts.Parts.{Parts}
 use Rattle.livemd_format.specs.Accepts.{IsAccepted}
 use Rattle.livemd_format.specs.Reads.{Reads}
@@ -17,6 +17,7 @@ use Rattle.driver.specs.declared.outcome.RunFault.TheVariants.{Usage, BookUnread
 use Rattle.driver.specs.declared.outcome.Outcome.{Outcome}
 use Rattle.driver.specs.declared.play.Played.{Played}
 use Rattle.driver.specs.declared.play.Played.TheVariants.{Done, SinkFailed as PlayCut, OutOfMemory as PlayMemory}
+use Rattle.driver.specs.Around.{Input, Output, IsWrittenText, IsCutText}
 use Rattle.driver.specs.Program.{IsPlay, BookIsAccepted, most_bytes, status_of}
 
 -- the words don't ask to play where there are no names
@@ -62,43 +63,53 @@ BytesAreScript bytes (Ok s) = IsScriptOf bytes s
 BytesAreScript bytes (Err fault) = IsScriptFault bytes fault
 
 -- the bytes of a name were read
-abbrev pub WereRead : Option (List (List ℕ × List ℕ)) → List ℕ → (List ℕ → Type 0) → Type 0
-WereRead held name P = (bytes : List ℕ) × (GivesFront held name most_bytes bytes × P bytes)
+pub record WereRead (held : Option (List (List ℕ × List ℕ))) (name : List ℕ) (before after : Input) (P : List ℕ → Type 0) : Type 0 where
+  pub bytes : List ℕ
+  pub front : GivesFront held name most_bytes bytes
+  pub reads : after.readings ≡ with_reading before.readings name false
+  pub so : P bytes
 
-abbrev pub IsBookAnswer : Option (List (List ℕ × List ℕ)) → List ℕ → ℕ → ℕ → Result Read RunFault → Type 0
-IsBookAnswer held name sf sf' (Ok r) = WereRead held name (λ bytes. IsAccepted bytes × Reads bytes r.notebook r.notices)
-IsBookAnswer held name sf sf' (Err Usage) = ⊥
-IsBookAnswer held name sf sf' (Err BookUnread) = Rose sf sf'
-IsBookAnswer held name sf sf' (Err (BookRefused why)) = WereRead held name (λ bytes. IsBookCause bytes why × (why ≢ BookMemory))
-IsBookAnswer held name sf sf' (Err ScriptUnread) = ⊥
-IsBookAnswer held name sf sf' (Err (ScriptRefused why)) = ⊥
-IsBookAnswer held name sf sf' (Err SinkFailed) = ⊥
-IsBookAnswer held name sf sf' (Err OutOfMemory) = Unit {0}
+-- the read of a name failed
+pub record IsUnread (name : List ℕ) (before after : Input) : Type 0 where
+  pub reads : after.readings ≡ with_reading before.readings name true
+  pub rose : Rose before.faults after.faults
 
-abbrev pub IsScriptAnswer : Option (List (List ℕ × List ℕ)) → List ℕ → ℕ → ℕ → Result Content RunFault → Type 0
-IsScriptAnswer held name sf sf' (Ok s) = WereRead held name (λ bytes. IsScriptOf bytes s)
-IsScriptAnswer held name sf sf' (Err Usage) = ⊥
-IsScriptAnswer held name sf sf' (Err BookUnread) = ⊥
-IsScriptAnswer held name sf sf' (Err (BookRefused why)) = ⊥
-IsScriptAnswer held name sf sf' (Err ScriptUnread) = Rose sf sf'
-IsScriptAnswer held name sf sf' (Err (ScriptRefused why)) = WereRead held name (λ bytes. IsScriptCause bytes why × (why ≢ ScriptMemory))
-IsScriptAnswer held name sf sf' (Err SinkFailed) = ⊥
-IsScriptAnswer held name sf sf' (Err OutOfMemory) = Unit {0}
+abbrev pub IsBookAnswer : Option (List (List ℕ × List ℕ)) → List ℕ → Input → Input → Result Read RunFault → Type 0
+IsBookAnswer held name before after (Ok r) = WereRead held name before after (λ bytes. IsAccepted bytes × Reads bytes r.notebook r.notices)
+IsBookAnswer held name before after (Err Usage) = ⊥
+IsBookAnswer held name before after (Err BookUnread) = IsUnread name before after
+IsBookAnswer held name before after (Err (BookRefused why)) = WereRead held name before after (λ bytes. IsBookCause bytes why × (why ≢ BookMemory))
+IsBookAnswer held name before after (Err ScriptUnread) = ⊥
+IsBookAnswer held name before after (Err (ScriptRefused why)) = ⊥
+IsBookAnswer held name before after (Err SinkFailed) = ⊥
+IsBookAnswer held name before after (Err OutOfMemory) = Unit {0}
 
--- the text of the tidy notebook was written: all of it, or a front of it where the sink failed
-abbrev pub IsWriting : Parts → ℕ → ℕ → Option (List ℕ) → Option (List ℕ) → Option RunFault → Type 0
-IsWriting n kf kf' before after None = AppendsAll before (text_of (tidied n)) after
-IsWriting n kf kf' before after (Some Usage) = ⊥
-IsWriting n kf kf' before after (Some BookUnread) = ⊥
-IsWriting n kf kf' before after (Some (BookRefused why)) = ⊥
-IsWriting n kf kf' before after (Some ScriptUnread) = ⊥
-IsWriting n kf kf' before after (Some (ScriptRefused why)) = ⊥
-IsWriting n kf kf' before after (Some SinkFailed) = Rose kf kf' × AppendsFront before (text_of (tidied n)) after
-IsWriting n kf kf' before after (Some OutOfMemory) = Unit {0}
+abbrev pub IsScriptAnswer : Option (List (List ℕ × List ℕ)) → List ℕ → Input → Input → Result Content RunFault → Type 0
+IsScriptAnswer held name before after (Ok s) = WereRead held name before after (λ bytes. IsScriptOf bytes s)
+IsScriptAnswer held name before after (Err Usage) = ⊥
+IsScriptAnswer held name before after (Err BookUnread) = ⊥
+IsScriptAnswer held name before after (Err (BookRefused why)) = ⊥
+IsScriptAnswer held name before after (Err ScriptUnread) = IsUnread name before after
+IsScriptAnswer held name before after (Err (ScriptRefused why)) = WereRead held name before after (λ bytes. IsScriptCause bytes why × (why ≢ ScriptMemory))
+IsScriptAnswer held name before after (Err SinkFailed) = ⊥
+IsScriptAnswer held name before after (Err OutOfMemory) = Unit {0}
 
--- the words ask to play this script, and their book was read
-pub record HasReadBook (words : List (List ℕ)) (held : Option (List (List ℕ × List ℕ))) (script : List ℕ) (r : Read) : Type 0 where
+-- the text of the tidy notebook was written by one write: all of it, or a front of it where the sink failed
+abbrev pub IsWriting : Parts → Output → Output → Option RunFault → Type 0
+IsWriting n before after None = IsWrittenText (text_of (tidied n)) before after
+IsWriting n before after (Some Usage) = ⊥
+IsWriting n before after (Some BookUnread) = ⊥
+IsWriting n before after (Some (BookRefused why)) = ⊥
+IsWriting n before after (Some ScriptUnread) = ⊥
+IsWriting n before after (Some (ScriptRefused why)) = ⊥
+IsWriting n before after (Some SinkFailed) = Rose before.faults after.faults × IsCutText (text_of (tidied n)) before after
+IsWriting n before after (Some OutOfMemory) = Unit {0}
+
+-- the words ask to play this script, and their book was read, with no other read, and accepted
+pub record HasReadBook (words : List (List ℕ)) (held : Option (List (List ℕ × List ℕ))) (script : List ℕ) (r : Read) (before after : Input) : Type 0 where
   pub accepted : BookIsAccepted words held
   pub form : IsPlay words accepted.read.book script
   pub notebook : accepted.notebook ≡ r.notebook
   pub notices : accepted.notices ≡ r.notices
+  pub reads : after.readings ≡ with_reading before.readings accepted.read.book false
+  pub counts : before.faults ≤ after.faults

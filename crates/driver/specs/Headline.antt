@@ -1,6 +1,5 @@
 -- What a run of a script says: it prints the transcript of one actual history.
-use Rattle.std.specs.Prelude.{◌≡◌, ℕ, ◌+◌, ◌<◌, ◌⊎◌, true, List, [], ◌∷◌, ◌++◌, length, map, take, Option, Some}
-use Rattle.book_outside.specs.Outside.{AppendsFront}
+use Rattle.std.specs.Prelude.{◌≡◌, ℕ, ◌+◌, ◌<◌, ◌⊎◌, true, List, [], ◌∷◌, ◌++◌, length, map, take, Some}
 use Rattle.delta.specs.declared.Step.{Step}
 use Rattle.delta.specs.Moves.{text_after}
 use Rattle.notebook.specs.declared.parts.Cell.{Cell}
@@ -24,8 +23,9 @@ use Rattle.transcript.specs.Texts.{as_text}
 use Rattle.script.specs.declared.line.ScriptLine.{ScriptLine}
 use Rattle.script.specs.declared.content.Content.{Content}
 use Rattle.driver.specs.Turns.{AreMarks}
-use Rattle.driver.specs.Player.{Stage, Sent}
-use Rattle.driver.specs.Transcript.{stage_after, finished, transcript}
+use Rattle.driver.specs.Player.{Stage, Printed, Sent}
+use Rattle.driver.specs.Transcript.{printed_by, finished, transcript}
+use Rattle.driver.specs.Around.{Output, AreCut}
 
 -- calls that evaluators make
 abbrev pub IsEvaluation : Call → Type 0
@@ -121,26 +121,26 @@ pub record IsActual (n0 : Parts) (workers : ℕ) (h : List Entry) (marks : List 
   pub evaluated : (k : ℕ) → AllShow (state n0 (take k h))
   pub late : LeaveStates n0 h
 
--- a run that was played to its end: the text is the transcript of one actual history
-pub record IsPlayed (n0 : Parts) (notices : List (List ℕ)) (script : Content) (workers : ℕ) (h : List Entry) (marks : List ℕ) (text : List ℕ) : Type 0 where
-  pub printed : transcript n0 notices script h marks ≡ Some text
-  pub stage : Stage
-  pub played : finished n0 script h marks ≡ Some stage
-  pub actual : IsActual n0 workers h marks stage
+-- a run that was played to its end: the pieces are the transcript of one actual history
+pub record IsPlayed (n0 : Parts) (notices : List (List ℕ)) (script : Content) (workers : ℕ) (h : List Entry) (marks : List ℕ) (pieces : List (List ℕ)) : Type 0 where
+  pub printed : transcript n0 notices script h marks ≡ Some pieces
+  pub end : Printed
+  pub played : finished n0 script h marks ≡ Some end
+  pub actual : IsActual n0 workers h marks end.stage
 
--- a run that broke off: the text is that of the notices and of the script's first lines over one actual history, whose turns these lines use up
-pub record IsBrokenOff (n0 : Parts) (notices : List (List ℕ)) (script : Content) (workers : ℕ) (h : List Entry) (marks : List ℕ) (text : List ℕ) : Type 0 where
+-- a run that broke off: the pieces are those of the notices and of the script's first lines over one actual history, whose turns these lines use up
+pub record IsBrokenOff (n0 : Parts) (notices : List (List ℕ)) (script : Content) (workers : ℕ) (h : List Entry) (marks : List ℕ) (pieces : List (List ℕ)) : Type 0 where
   pub lines : List ScriptLine
   pub others : List ScriptLine
   pub first : script.lines ≡ lines ++ others
-  pub stage : Stage
-  pub played : stage_after n0 script lines h marks ≡ Some stage
-  pub used : stage.turns ≡ []
-  pub printed : text ≡ as_text notices ++ stage.said
-  pub actual : IsActual n0 workers h marks stage
+  pub end : Printed
+  pub played : printed_by n0 script lines h marks ≡ Some end
+  pub used : end.stage.turns ≡ []
+  pub printed : pieces ≡ as_text notices ∷ end.pieces
+  pub actual : IsActual n0 workers h marks end.stage
 
--- a run whose writing was cut off: a front was written of the text of one that was played to its end, or that broke off
-pub record IsCut (n0 : Parts) (notices : List (List ℕ)) (script : Content) (workers : ℕ) (h : List Entry) (marks : List ℕ) (before after : Option (List ℕ)) : Type 0 where
-  pub text : List ℕ
-  pub run : IsPlayed n0 notices script workers h marks text ⊎ IsBrokenOff n0 notices script workers h marks text
-  pub written : AppendsFront before text after
+-- a run whose writing was cut off: a write was asked for each piece of one that was played to its end, or that broke off, and just a front of their texts was written
+pub record IsCut (n0 : Parts) (notices : List (List ℕ)) (script : Content) (workers : ℕ) (h : List Entry) (marks : List ℕ) (before after : Output) : Type 0 where
+  pub pieces : List (List ℕ)
+  pub run : IsPlayed n0 notices script workers h marks pieces ⊎ IsBrokenOff n0 notices script workers h marks pieces
+  pub written : AreCut pieces before after

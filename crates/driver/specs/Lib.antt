@@ -1,4 +1,5 @@
 pub mod Answers
+pub mod Around
 pub mod Clients
 pub mod Ends
 pub mod Headline

@@ -39,7 +39,7 @@ pub record Sent : Type 0 where
   pub op : Op
   pub reply : Reply
 
--- where the play stands: the turns not yet used, the clients in order of joining, the calls made, those of them that clients sent, and the bytes printed
+-- where the play stands: the turns not yet used, the clients in order of joining, the calls made, those of them that clients sent, and what the present line has printed
 pub record Stage : Type 0 where
   pub turns : List Turn
   pub clients : List Client
@@ -300,6 +300,19 @@ play_line g Settle s = play_settle g s
 play_line g Cells s = play_cells g s
 play_line g Book s = play_book g s
 
-abbrev pub play : Game → List ScriptLine → Stage → Option Stage
-play g [] s = Some s
-play g (l ∷ ls) s = or_none (play_line g l s) (play g ls)
+-- some lines were played: what each of them printed, a piece for each, and the stage after them
+pub record Printed : Type 0 where
+  pub pieces : List (List ℕ)
+  pub stage : Stage
+
+-- as a line finds the stage: it has printed nothing yet
+abbrev pub unsaid : Stage → Stage
+unsaid s = record s { said = [] }
+
+abbrev pub with_piece : List ℕ → Printed → Printed
+with_piece piece p = record { pieces = piece ∷ p.pieces; stage = p.stage }
+
+-- lines one after the other: what a line has printed is its piece
+abbrev pub play : Game → List ScriptLine → Stage → Option Printed
+play g [] s = Some (record { pieces = []; stage = s })
+play g (l ∷ ls) s = or_none (play_line g l (unsaid s)) (λ t. or_none (play g ls t) (λ p. Some (with_piece t.said p)))

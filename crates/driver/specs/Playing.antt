@@ -1,22 +1,31 @@
 -- What some lines of a script make of the player, and what is written of them.
-use Rattle.std.specs.Prelude.{◌≡◌, ℕ, List, [], ◌++◌, Option}
+use Rattle.std.specs.Prelude.{◌≡◌, ℕ, List, ◌++◌, Some}
 use Rattle.script.specs.declared.line.ScriptLine.{ScriptLine}
-use Rattle.book_outside.specs.Outside.{AppendsAll, AppendsFront}
+use Rattle.driver.specs.Turns.{Turn}
 use Rattle.driver.specs.Player.{Game, Stage, play}
-use Rattle.driver.specs.Standing.{HasDone}
+use Rattle.driver.specs.Standing.{Stands, turns_of}
+use Rattle.driver.specs.Around.{Output, AreWritten, AreCut}
 use Rattle.driver.specs.declared.player.Player.{Player}
 
--- these lines were played, and just what they print was written
-pub record HavePlayed (g : Game) (lines : List ScriptLine) (old new : Player) (s : Stage) (before after : Option (List ℕ)) : Type 0 where
-  pub text : List ℕ
-  pub played : HasDone g (play g lines) old new s [] text
-  pub written : AppendsAll before text after
+-- with just the turns that came with them, these lines lead from a stage to another, and print these pieces
+pub record ArePlayed (g : Game) (lines : List ScriptLine) (old new : Player) (s : Stage) (pieces : List (List ℕ)) : Type 0 where
+  pub stage : Stage
+  pub more : List Turn
+  pub grown : turns_of new ≡ turns_of old ++ more
+  pub plays : (rest : List Turn) → play g lines (record s { turns = more ++ rest }) ≡ Some (record { pieces = pieces; stage = record stage { turns = rest } })
+  pub stands : Stands g new stage
+
+-- these lines were played, and just what they print was written, each piece by one write
+pub record HavePlayed (g : Game) (lines : List ScriptLine) (old new : Player) (s : Stage) (before after : Output) : Type 0 where
+  pub pieces : List (List ℕ)
+  pub played : ArePlayed g lines old new s pieces
+  pub written : AreWritten pieces before after
 
 -- the first of these lines were played, and a front of what they print was written
-pub record HaveBrokenOff (g : Game) (lines : List ScriptLine) (old new : Player) (s : Stage) (before after : Option (List ℕ)) : Type 0 where
+pub record HaveBrokenOff (g : Game) (lines : List ScriptLine) (old new : Player) (s : Stage) (before after : Output) : Type 0 where
   pub first : List ScriptLine
   pub others : List ScriptLine
   pub parts : lines ≡ first ++ others
-  pub text : List ℕ
-  pub played : HasDone g (play g first) old new s [] text
-  pub written : AppendsFront before text after
+  pub pieces : List (List ℕ)
+  pub played : ArePlayed g first old new s pieces
+  pub written : AreCut pieces before after

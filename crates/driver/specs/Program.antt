@@ -1,6 +1,6 @@
 -- What the program answers.
-use Rattle.std.specs.Prelude.{◌≡◌, ◌≢◌, ℕ, ◌⊎◌, List, [], ◌∷◌, map, Option, Some, None, codes}
-use Rattle.book_outside.specs.Outside.{Rose, GivesFront, AppendsAll, AppendsFront}
+use Rattle.std.specs.Prelude.{◌≡◌, ◌≢◌, ℕ, ◌⊎◌, Bool, true, false, List, [], ◌∷◌, map, Option, Some, None, codes}
+use Rattle.book_outside.specs.Outside.{Rose, GivesFront, with_reading}
 use Rattle.notebook.specs.declared.parts.Parts.{Parts}
 use Rattle.livemd_format.specs.declared.notices.Notice.{Notice}
 use Rattle.livemd_format.specs.Accepts.{IsAccepted}
@@ -16,6 +16,7 @@ use Rattle.script.specs.declared.error.ScriptError.TheVariants.{OutOfMemory as S
 use Rattle.script.specs.Script.{IsScriptOf, IsScriptCause}
 use Rattle.driver.specs.Lines.{notice_line}
 use Rattle.driver.specs.Headline.{IsPlayed, IsCut}
+use Rattle.driver.specs.Around.{Around, IsWrittenText, IsCutText, AreWritten}
 use Rattle.driver.specs.declared.outcome.Report.{Report}
 use Rattle.driver.specs.declared.outcome.RunFault.{RunFault}
 use Rattle.driver.specs.declared.outcome.RunFault.TheVariants.{Usage, BookUnread, BookRefused, ScriptUnread, ScriptRefused, SinkFailed, OutOfMemory}
@@ -79,96 +80,119 @@ pub record ScriptIsAccepted (words : List (List ℕ)) (held : Option (List (List
   pub content : Content
   pub is : IsScriptOf read.bytes content
 
--- nothing was written
-abbrev pub IsUnwritten : Option (List ℕ) → Option (List ℕ) → Type 0
-IsUnwritten before after = after ≡ before
+-- one read more was made, of the book, and failed or didn't
+abbrev pub BookWasRead : Around → List ℕ → Bool → Type 0
+BookWasRead a book failed = a.shelf_after.readings ≡ with_reading a.shelf_before.readings book failed
+
+-- two reads more were made: of the book, which didn't fail, and then of the script, which failed or didn't
+abbrev pub BothWereRead : Around → List ℕ → List ℕ → Bool → Type 0
+BothWereRead a book script failed = a.shelf_after.readings ≡ with_reading (with_reading a.shelf_before.readings book false) script failed
+
+-- no read was made
+abbrev pub NothingWasRead : Around → Type 0
+NothingWasRead a = a.shelf_after.readings ≡ a.shelf_before.readings
+
+-- nothing was written, and no write asked for: the sink is as it was
+abbrev pub IsUnwritten : Around → Type 0
+IsUnwritten a = a.sink_after ≡ a.sink_before
 
 -- status 1: the words are in neither form
-pub record HasBadWords (words : List (List ℕ)) (before after : Option (List ℕ)) : Type 0 where
+pub record HasBadWords (words : List (List ℕ)) (a : Around) : Type 0 where
   pub no_play : (book script : List ℕ) → ¬ IsPlay words book script
   pub no_format : (book : List ℕ) → ¬ IsFormat words book
-  pub unwritten : IsUnwritten before after
+  pub reads : NothingWasRead a
+  pub unwritten : IsUnwritten a
 
--- status 2: the words are in a form, and the shelf's count rose
-pub record HasUnreadBook (words : List (List ℕ)) (faults faults' : ℕ) (before after : Option (List ℕ)) : Type 0 where
-  pub form : (book : List ℕ) × NamesBook words book
-  pub rose : Rose faults faults'
-  pub unwritten : IsUnwritten before after
+-- status 2: the words are in a form, the read of their book failed, and the shelf's count rose
+pub record HasUnreadBook (words : List (List ℕ)) (a : Around) : Type 0 where
+  pub book : List ℕ
+  pub form : NamesBook words book
+  pub reads : BookWasRead a book true
+  pub rose : Rose a.shelf_before.faults a.shelf_after.faults
+  pub unwritten : IsUnwritten a
 
 -- status 3: the bytes of the book are refused, for another cause than memory
-pub record HasRefusedBook (words : List (List ℕ)) (held : Option (List (List ℕ × List ℕ))) (why : BookError) (before after : Option (List ℕ)) : Type 0 where
-  pub read : BookIsRead words held
+pub record HasRefusedBook (words : List (List ℕ)) (a : Around) (why : BookError) : Type 0 where
+  pub read : BookIsRead words a.held
+  pub reads : BookWasRead a read.book false
   pub cause : IsBookCause read.bytes why
   pub named : why ≢ BookMemory
-  pub unwritten : IsUnwritten before after
+  pub unwritten : IsUnwritten a
 
--- status 4: the book was accepted, a script is to be played, and the shelf's count rose
-pub record HasUnreadScript (words : List (List ℕ)) (held : Option (List (List ℕ × List ℕ))) (faults faults' : ℕ) (before after : Option (List ℕ)) : Type 0 where
-  pub accepted : BookIsAccepted words held
-  pub form : (script : List ℕ) × IsPlay words accepted.read.book script
-  pub rose : Rose faults faults'
-  pub unwritten : IsUnwritten before after
+-- status 4: the book was accepted, a script is to be played, whose read failed, and the shelf's count rose
+pub record HasUnreadScript (words : List (List ℕ)) (a : Around) : Type 0 where
+  pub accepted : BookIsAccepted words a.held
+  pub script : List ℕ
+  pub form : IsPlay words accepted.read.book script
+  pub reads : BothWereRead a accepted.read.book script true
+  pub rose : Rose a.shelf_before.faults a.shelf_after.faults
+  pub unwritten : IsUnwritten a
 
 -- status 5: the book was accepted, and the bytes of the script are refused, for another cause than memory
-pub record HasRefusedScript (words : List (List ℕ)) (held : Option (List (List ℕ × List ℕ))) (why : ScriptError) (before after : Option (List ℕ)) : Type 0 where
-  pub read : ScriptIsRead words held
+pub record HasRefusedScript (words : List (List ℕ)) (a : Around) (why : ScriptError) : Type 0 where
+  pub read : ScriptIsRead words a.held
+  pub reads : BothWereRead a read.accepted.read.book read.script false
   pub cause : IsScriptCause read.bytes why
   pub named : why ≢ ScriptMemory
-  pub unwritten : IsUnwritten before after
+  pub unwritten : IsUnwritten a
 
 -- status 6 of `play`: book and script were accepted, the sink failed, and it took just a front of what was played, whose history the report has
-pub record HasFailedSink (words : List (List ℕ)) (held : Option (List (List ℕ × List ℕ))) (faults faults' : ℕ) (given : Option Report) (before after : Option (List ℕ)) : Type 0 where
-  pub accepted : ScriptIsAccepted words held
-  pub rose : Rose faults faults'
+pub record HasFailedSink (words : List (List ℕ)) (a : Around) (given : Option Report) : Type 0 where
+  pub accepted : ScriptIsAccepted words a.held
+  pub reads : BothWereRead a accepted.read.accepted.read.book accepted.read.script false
+  pub rose : Rose a.sink_before.faults a.sink_after.faults
   pub told : Report
   pub report : given ≡ Some told
-  pub cut : IsCut accepted.read.accepted.notebook (map notice_line accepted.read.accepted.notices) accepted.content 0 told.history told.marks before after
+  pub cut : IsCut accepted.read.accepted.notebook (map notice_line accepted.read.accepted.notices) accepted.content 0 told.history told.marks a.sink_before a.sink_after
 
--- status 6 of `format`: the book was accepted, the sink failed, and it took just a front of the tidy notebook's text
-pub record HasCutBook (words : List (List ℕ)) (held : Option (List (List ℕ × List ℕ))) (faults faults' : ℕ) (given : Option Report) (before after : Option (List ℕ)) : Type 0 where
-  pub accepted : BookIsAccepted words held
+-- status 6 of `format`: the book was accepted, the sink failed in the one write, and it took just a front of the tidy notebook's text
+pub record HasCutBook (words : List (List ℕ)) (a : Around) (given : Option Report) : Type 0 where
+  pub accepted : BookIsAccepted words a.held
   pub form : IsFormat words accepted.read.book
-  pub rose : Rose faults faults'
+  pub reads : BookWasRead a accepted.read.book false
+  pub rose : Rose a.sink_before.faults a.sink_after.faults
   pub report : given ≡ None
-  pub written : AppendsFront before (text_of (tidied accepted.notebook)) after
+  pub written : IsCutText (text_of (tidied accepted.notebook)) a.sink_before a.sink_after
 
--- status 0 of `play`: the program printed the transcript of one actual history
-pub record HasPlayedAll (words : List (List ℕ)) (held : Option (List (List ℕ × List ℕ))) (given : Option Report) (before after : Option (List ℕ)) : Type 0 where
-  pub accepted : ScriptIsAccepted words held
+-- status 0 of `play`: the program printed the transcript of one actual history, each of its pieces that isn't empty by one write
+pub record HasPlayedAll (words : List (List ℕ)) (a : Around) (given : Option Report) : Type 0 where
+  pub accepted : ScriptIsAccepted words a.held
+  pub reads : BothWereRead a accepted.read.accepted.read.book accepted.read.script false
   pub told : Report
   pub report : given ≡ Some told
-  pub text : List ℕ
-  pub played : IsPlayed accepted.read.accepted.notebook (map notice_line accepted.read.accepted.notices) accepted.content 0 told.history told.marks text
-  pub written : AppendsAll before text after
+  pub pieces : List (List ℕ)
+  pub played : IsPlayed accepted.read.accepted.notebook (map notice_line accepted.read.accepted.notices) accepted.content 0 told.history told.marks pieces
+  pub written : AreWritten pieces a.sink_before a.sink_after
 
--- status 0 of `format`: the program printed the tidy notebook's text
-pub record HasFormatted (words : List (List ℕ)) (held : Option (List (List ℕ × List ℕ))) (given : Option Report) (before after : Option (List ℕ)) : Type 0 where
-  pub accepted : BookIsAccepted words held
+-- status 0 of `format`: the program printed the tidy notebook's text by one write
+pub record HasFormatted (words : List (List ℕ)) (a : Around) (given : Option Report) : Type 0 where
+  pub accepted : BookIsAccepted words a.held
   pub form : IsFormat words accepted.read.book
+  pub reads : BookWasRead a accepted.read.book false
   pub report : given ≡ None
-  pub written : AppendsAll before (text_of (tidied accepted.notebook)) after
+  pub written : IsWrittenText (text_of (tidied accepted.notebook)) a.sink_before a.sink_after
 
 -- the fault and the report of each status, with its cause
-abbrev pub IsAnswer : List (List ℕ) → Option (List (List ℕ × List ℕ)) → ℕ → ℕ → ℕ → ℕ → Option (List ℕ) → Option (List ℕ) → Option Report → Option RunFault → Type 0
-IsAnswer words held sf sf' kf kf' before after report None = HasPlayedAll words held report before after ⊎ HasFormatted words held report before after
-IsAnswer words held sf sf' kf kf' before after report (Some Usage) = HasBadWords words before after × (report ≡ None)
-IsAnswer words held sf sf' kf kf' before after report (Some BookUnread) = HasUnreadBook words sf sf' before after × (report ≡ None)
-IsAnswer words held sf sf' kf kf' before after report (Some (BookRefused why)) = HasRefusedBook words held why before after × (report ≡ None)
-IsAnswer words held sf sf' kf kf' before after report (Some ScriptUnread) = HasUnreadScript words held sf sf' before after × (report ≡ None)
-IsAnswer words held sf sf' kf kf' before after report (Some (ScriptRefused why)) = HasRefusedScript words held why before after × (report ≡ None)
-IsAnswer words held sf sf' kf kf' before after report (Some SinkFailed) = HasFailedSink words held kf kf' report before after ⊎ HasCutBook words held kf kf' report before after
-IsAnswer words held sf sf' kf kf' before after report (Some OutOfMemory) = report ≡ None
+abbrev pub IsAnswer : List (List ℕ) → Around → Option Report → Option RunFault → Type 0
+IsAnswer words a report None = HasPlayedAll words a report ⊎ HasFormatted words a report
+IsAnswer words a report (Some Usage) = HasBadWords words a × (report ≡ None)
+IsAnswer words a report (Some BookUnread) = HasUnreadBook words a × (report ≡ None)
+IsAnswer words a report (Some (BookRefused why)) = HasRefusedBook words a why × (report ≡ None)
+IsAnswer words a report (Some ScriptUnread) = HasUnreadScript words a × (report ≡ None)
+IsAnswer words a report (Some (ScriptRefused why)) = HasRefusedScript words a why × (report ≡ None)
+IsAnswer words a report (Some SinkFailed) = HasFailedSink words a report ⊎ HasCutBook words a report
+IsAnswer words a report (Some OutOfMemory) = report ≡ None
 
 -- the same of a book that is formatted, by its name: 1, 4 and 5 are no status of it
-abbrev pub IsFormatAnswer : List ℕ → Option (List (List ℕ × List ℕ)) → ℕ → ℕ → ℕ → ℕ → Option (List ℕ) → Option (List ℕ) → Option Report → Option RunFault → Type 0
-IsFormatAnswer book held sf sf' kf kf' before after report None = HasFormatted (format_words book) held report before after
-IsFormatAnswer book held sf sf' kf kf' before after report (Some Usage) = ⊥
-IsFormatAnswer book held sf sf' kf kf' before after report (Some BookUnread) = HasUnreadBook (format_words book) sf sf' before after × (report ≡ None)
-IsFormatAnswer book held sf sf' kf kf' before after report (Some (BookRefused why)) = HasRefusedBook (format_words book) held why before after × (report ≡ None)
-IsFormatAnswer book held sf sf' kf kf' before after report (Some ScriptUnread) = ⊥
-IsFormatAnswer book held sf sf' kf kf' before after report (Some (ScriptRefused why)) = ⊥
-IsFormatAnswer book held sf sf' kf kf' before after report (Some SinkFailed) = HasCutBook (format_words book) held kf kf' report before after
-IsFormatAnswer book held sf sf' kf kf' before after report (Some OutOfMemory) = report ≡ None
+abbrev pub IsFormatAnswer : List ℕ → Around → Option Report → Option RunFault → Type 0
+IsFormatAnswer book a report None = HasFormatted (format_words book) a report
+IsFormatAnswer book a report (Some Usage) = ⊥
+IsFormatAnswer book a report (Some BookUnread) = HasUnreadBook (format_words book) a × (report ≡ None)
+IsFormatAnswer book a report (Some (BookRefused why)) = HasRefusedBook (format_words book) a why × (report ≡ None)
+IsFormatAnswer book a report (Some ScriptUnread) = ⊥
+IsFormatAnswer book a report (Some (ScriptRefused why)) = ⊥
+IsFormatAnswer book a report (Some SinkFailed) = HasCutBook (format_words book) a report
+IsFormatAnswer book a report (Some OutOfMemory) = report ≡ None
 
 -- the words are in a form, and whatever the shelf gives of the files that they name is accepted, which says something where the shelf tells what it holds
 pub record AreAcceptable (words : List (List ℕ)) (held : Option (List (List ℕ × List ℕ))) : Type 0 where
@@ -181,5 +205,6 @@ abbrev pub IsDone : Option RunFault → Type 0
 IsDone fault = (fault ≡ None) ⊎ (fault ≡ Some OutOfMemory)
 
 -- where nothing can be refused and no count rose, all is done
-abbrev pub IsComplete : List (List ℕ) → Option (List (List ℕ × List ℕ)) → ℕ → ℕ → ℕ → ℕ → Option RunFault → Type 0
-IsComplete words held sf sf' kf kf' fault = AreAcceptable words held → ¬ Rose sf sf' → ¬ Rose kf kf' → IsDone fault
+abbrev pub IsComplete : List (List ℕ) → Around → Option RunFault → Type 0
+IsComplete words a fault =
+    AreAcceptable words a.held → ¬ Rose a.shelf_before.faults a.shelf_after.faults → ¬ Rose a.sink_before.faults a.sink_after.faults → IsDone fault

@@ -8,7 +8,7 @@ use Rattle.script.specs.declared.line.ScriptLine.{ScriptLine}
 use Rattle.script.specs.declared.content.Content.{Content}
 use Rattle.driver.specs.Turns.{Turn, turns_from}
 use Rattle.driver.specs.Statuses.{status_lines}
-use Rattle.driver.specs.Player.{Game, Stage, or_none, play, settled}
+use Rattle.driver.specs.Player.{Game, Stage, Printed, or_none, play, settled}
 
 abbrev pub game : Parts → Content → Game
 game n0 script = record { opening = n0; names = script.names }
@@ -17,23 +17,31 @@ game n0 script = record { opening = n0; names = script.names }
 abbrev pub begun : List Entry → List ℕ → Stage
 begun h marks = record { turns = turns_from [] h marks; clients = []; asked = []; sent = []; said = [] }
 
--- the stage after some lines of the script
-abbrev pub stage_after : Parts → Content → List ScriptLine → List Entry → List ℕ → Option Stage
-stage_after n0 script lines h marks = play (game n0 script) lines (begun h marks)
+-- some lines of the script, played from its beginning
+abbrev pub printed_by : Parts → Content → List ScriptLine → List Entry → List ℕ → Option Printed
+printed_by n0 script lines h marks = play (game n0 script) lines (begun h marks)
 
--- the stage after all lines and the end, which settles without a line
-abbrev pub finished : Parts → Content → List Entry → List ℕ → Option Stage
-finished n0 script h marks = or_none (stage_after n0 script script.lines h marks) (settled (game n0 script))
+-- the end settles, without a line
+abbrev pub ended : Parts → Content → Printed → Option Printed
+ended n0 script p = or_none (settled (game n0 script) p.stage) (λ s. Some (record p { stage = s }))
+
+-- all lines and the end: what each line printed, and the stage after the end
+abbrev pub finished : Parts → Content → List Entry → List ℕ → Option Printed
+finished n0 script h marks = or_none (printed_by n0 script script.lines h marks) (ended n0 script)
 
 -- the end: the server's notebook, and the states of its cells
 abbrev pub end_lines : State → List (List ℕ)
 end_lines s = codes "end" ∷ (book_lines (revision s) s.book ++ status_lines s.book s.work)
 
--- all that is printed, where all turns are used up
-abbrev pub ending : Parts → List (List ℕ) → List Entry → Stage → List Turn → Option (List ℕ)
-ending n0 notices h s [] = Some (as_text notices ++ (s.said ++ as_text (end_lines (state n0 h))))
-ending n0 notices h s (t ∷ ts) = None
+-- the pieces of a play: one of the notices' lines, one of each line of the script, and one of the end
+abbrev pub pieces_of : Parts → List (List ℕ) → List Entry → List (List ℕ) → List (List ℕ)
+pieces_of n0 notices h lines = as_text notices ∷ (lines ++ as_text (end_lines (state n0 h)) ∷ [])
 
--- all that the script prints over the history, after the notices' lines
-abbrev pub transcript : Parts → List (List ℕ) → Content → List Entry → List ℕ → Option (List ℕ)
-transcript n0 notices script h marks = or_none (finished n0 script h marks) (λ s. ending n0 notices h s s.turns)
+-- these, where all turns are used up
+abbrev pub ending : Parts → List (List ℕ) → List Entry → List (List ℕ) → List Turn → Option (List (List ℕ))
+ending n0 notices h lines [] = Some (pieces_of n0 notices h lines)
+ending n0 notices h lines (t ∷ ts) = None
+
+-- the transcript: the pieces that the play of the script over the history prints, one after the other
+abbrev pub transcript : Parts → List (List ℕ) → Content → List Entry → List ℕ → Option (List (List ℕ))
+transcript n0 notices script h marks = or_none (finished n0 script h marks) (λ p. ending n0 notices h p.pieces p.stage.turns)

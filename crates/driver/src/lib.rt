@@ -13,6 +13,3 @@ mod top;
 pub use outcome::{Outcome, Report, RunFault};
 pub use session_ops::{Call, Entry, Op, Refusal, Reply};
 pub use top::{format_command, program};
-
-#[cfg(test)]
-mod tests;

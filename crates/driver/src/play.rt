@@ -1,6 +1,7 @@
 //! Playing a script over a notebook, with what is printed written to a sink.
-ghost use Rattle.std.specs.Prelude.{◌≡◌, ℕ, ◌≤◌, [], List, map, OnOk, IfOk, OnErr, IsErrOf, string_bytes};
+ghost use Rattle.std.specs.Prelude.{◌≡◌, ℕ, ◌≤◌, [], ◌∷◌, List, map, OnOk, IfOk, OnErr, IsErrOf, string_bytes};
 ghost use Rattle.book_outside.specs.Outside.{Rose, AppendsAll, AppendsFront};
+ghost use Rattle.driver.specs.Around.{Output, output, write_of, AreWritten, AreCut};
 ghost use Rattle.notebook.specs.declared.parts.Parts.{Parts};
 ghost use Rattle.session_ops.specs.State.{state};
 ghost use Rattle.transcript.specs.Texts.{as_text};
@@ -8,10 +9,10 @@ ghost use Rattle.driver.specs.Lines.{notice_line};
 ghost use Rattle.driver.specs.Player.{Game, Stage};
 ghost use Rattle.driver.specs.Transcript.{end_lines};
 ghost use Rattle.session_core.specs.Session.{IsSession, history_of};
-ghost use Rattle.driver.specs.Headline.{IsPlayed, IsCut};
+ghost use Rattle.driver.specs.Headline.{IsCut};
 ghost use Rattle.driver.specs.Standing.{Stands, HasPlayed, entries_of};
 ghost use Rattle.driver.specs.Playing.{HavePlayed, HaveBrokenOff};
-ghost use Rattle.driver.specs.Ends.{IsPlayedSo, IsFresh, EndsWritten, EndsCut, HasEnded};
+ghost use Rattle.driver.specs.Ends.{IsPlayedSo, IsPlayedOut, IsPlayedAfter, IsCutAfter, IsFresh, EndsWritten, EndsCut, HasEnded};
 
 use crate::lines::push_notice;
 use crate::outcome::Report;
@@ -54,7 +55,9 @@ pub(crate) fn play<R: Wait, K: Sink>(
     content: &Content,
     sink: &mut K,
 ) -> Played
-    ensures played { IsPlayedSo book (map notice_line notices.now) content.now (K.faults sink.old) (K.faults sink.new) (K.written sink.old) (K.written sink.new) result }
+    ensures played { IsPlayedSo book (map notice_line notices.now) content.now
+        (output K.writes K.faults K.written sink.old) (output K.writes K.faults K.written sink.new)
+        result }
 {
     let mut player = match Player::new(alloc, book) {
         Ok(player) => player,
@@ -91,8 +94,12 @@ fn play_all<R: Wait, K: Sink>(
     content: &Content,
     sink: &mut K,
 ) -> Result<(), PlayFault>
-    ensures played { (n0 : Parts) → IsFresh n0 player.old → OnOk result ((text : List ℕ) × (IsPlayed n0 (map notice_line notices.now) content.now 0 (entries_of player.new) player.new.marks text × AppendsAll (K.written sink.old) text (K.written sink.new))) }
-    ensures failed { (n0 : Parts) → IsFresh n0 player.old → IsErrOf result PlayFault.SinkFailed → IsCut n0 (map notice_line notices.now) content.now 0 (entries_of player.new) player.new.marks (K.written sink.old) (K.written sink.new) }
+    ensures played { (n0 : Parts) → IsFresh n0 player.old → OnOk result
+        (IsPlayedOut n0 (map notice_line notices.now) content.now (entries_of player.new) player.new.marks
+        (output K.writes K.faults K.written sink.old) (output K.writes K.faults K.written sink.new)) }
+    ensures failed { (n0 : Parts) → IsFresh n0 player.old → IsErrOf result PlayFault.SinkFailed
+        → IsCut n0 (map notice_line notices.now) content.now 0 (entries_of player.new) player.new.marks
+        (output K.writes K.faults K.written sink.old) (output K.writes K.faults K.written sink.new) }
     ensures counts { K.faults sink.old ≤ K.faults sink.new }
     ensures rose { IsErrOf result PlayFault.SinkFailed → Rose (K.faults sink.old) (K.faults sink.new) }
 {
@@ -104,8 +111,11 @@ fn play_all<R: Wait, K: Sink>(
 
 /// Writes the lines of the notices as one piece, if there are any.
 fn write_notices<K: Sink>(alloc: Global, notices: &[Notice], sink: &mut K) -> Result<(), PlayFault>
-    ensures written { OnOk result (AppendsAll (K.written sink.old) (as_text (map notice_line notices.now)) (K.written sink.new)) }
-    ensures cut { IsErrOf result PlayFault.SinkFailed → AppendsFront (K.written sink.old) (as_text (map notice_line notices.now)) (K.written sink.new) }
+    ensures written { OnOk result (AreWritten (as_text (map notice_line notices.now) ∷ [])
+        (output K.writes K.faults K.written sink.old) (output K.writes K.faults K.written sink.new)) }
+    ensures cut { IsErrOf result PlayFault.SinkFailed
+        → AreCut (as_text (map notice_line notices.now) ∷ [])
+        (output K.writes K.faults K.written sink.old) (output K.writes K.faults K.written sink.new) }
     ensures counts { K.faults sink.old ≤ K.faults sink.new }
     ensures rose { IsErrOf result PlayFault.SinkFailed → Rose (K.faults sink.old) (K.faults sink.new) }
 {
@@ -133,8 +143,12 @@ fn play_script<R: Wait, K: Sink>(
     content: &Content,
     sink: &mut K,
 ) -> Result<(), PlayFault>
-    ensures played { (n0 : Parts) → IsFresh n0 player.old → OnOk result ((text : List ℕ) × (IsPlayed n0 [] content.now 0 (entries_of player.new) player.new.marks text × AppendsAll (K.written sink.old) text (K.written sink.new))) }
-    ensures failed { (n0 : Parts) → IsFresh n0 player.old → IsErrOf result PlayFault.SinkFailed → IsCut n0 [] content.now 0 (entries_of player.new) player.new.marks (K.written sink.old) (K.written sink.new) }
+    ensures played { (n0 : Parts) → IsFresh n0 player.old → OnOk result
+        (IsPlayedAfter n0 content.now (entries_of player.new) player.new.marks
+        (output K.writes K.faults K.written sink.old) (output K.writes K.faults K.written sink.new)) }
+    ensures failed { (n0 : Parts) → IsFresh n0 player.old → IsErrOf result PlayFault.SinkFailed
+        → IsCutAfter n0 content.now (entries_of player.new) player.new.marks
+        (output K.writes K.faults K.written sink.old) (output K.writes K.faults K.written sink.new) }
     ensures counts { K.faults sink.old ≤ K.faults sink.new }
     ensures rose { IsErrOf result PlayFault.SinkFailed → Rose (K.faults sink.old) (K.faults sink.new) }
 {
@@ -148,8 +162,12 @@ fn play_script<R: Wait, K: Sink>(
 
 /// Plays the end: it settles and leaves a mark.
 fn play_end<R: Wait, K: Sink>(rt: &R, player: &mut Player, sink: &mut K) -> Result<(), PlayFault>
-    ensures played { (n0 : Parts) → IsSession n0 player.old.session → OnOk result (EndsWritten n0 player.old player.new (K.written sink.old) (K.written sink.new)) }
-    ensures failed { (n0 : Parts) → IsSession n0 player.old.session → IsErrOf result PlayFault.SinkFailed → EndsCut n0 player.old player.new (K.written sink.old) (K.written sink.new) }
+    ensures played { (n0 : Parts) → IsSession n0 player.old.session → OnOk result
+        (EndsWritten n0 player.old player.new
+        (output K.writes K.faults K.written sink.old) (output K.writes K.faults K.written sink.new)) }
+    ensures failed { (n0 : Parts) → IsSession n0 player.old.session → IsErrOf result PlayFault.SinkFailed
+        → EndsCut n0 player.old player.new
+        (output K.writes K.faults K.written sink.old) (output K.writes K.faults K.written sink.new) }
     ensures counts { K.faults sink.old ≤ K.faults sink.new }
     ensures rose { IsErrOf result PlayFault.SinkFailed → Rose (K.faults sink.old) (K.faults sink.new) }
 {
@@ -167,8 +185,16 @@ fn play_lines<R: Wait, K: Sink>(
     lines: &[ScriptLine],
     sink: &mut K,
 ) -> Result<(), PlayFault>
-    ensures played { (n0 : Parts) (s : Stage) → Stands (record { opening = n0; names = names.now }) player.old s → OnOk result (HavePlayed (record { opening = n0; names = names.now }) lines.now player.old player.new s (K.written sink.old) (K.written sink.new)) }
-    ensures failed { (n0 : Parts) (s : Stage) → Stands (record { opening = n0; names = names.now }) player.old s → IsErrOf result PlayFault.SinkFailed → HaveBrokenOff (record { opening = n0; names = names.now }) lines.now player.old player.new s (K.written sink.old) (K.written sink.new) }
+    ensures played { (n0 : Parts) (s : Stage)
+        → Stands (record { opening = n0; names = names.now }) player.old s
+        → OnOk result
+        (HavePlayed (record { opening = n0; names = names.now }) lines.now player.old player.new s
+        (output K.writes K.faults K.written sink.old) (output K.writes K.faults K.written sink.new)) }
+    ensures failed { (n0 : Parts) (s : Stage)
+        → Stands (record { opening = n0; names = names.now }) player.old s
+        → IsErrOf result PlayFault.SinkFailed
+        → HaveBrokenOff (record { opening = n0; names = names.now }) lines.now player.old player.new s
+        (output K.writes K.faults K.written sink.old) (output K.writes K.faults K.written sink.new) }
     ensures counts { K.faults sink.old ≤ K.faults sink.new }
     ensures rose { IsErrOf result PlayFault.SinkFailed → Rose (K.faults sink.old) (K.faults sink.new) }
 {
@@ -224,8 +250,9 @@ fn end_of(player: &Player) -> Result<String, AllocError>
     Ok(out)
 }
 
-/// Writes a piece, unless it is empty.
+/// Writes a piece, by one write, unless it is empty.
 fn write_piece<K: Sink>(sink: &mut K, piece: &str) -> Result<(), PlayFault>
+    ensures asked { K.writes sink.new ≡ write_of piece.now (K.writes sink.old) }
     ensures written { OnOk result (AppendsAll (K.written sink.old) piece.now (K.written sink.new)) }
     ensures cut { IsErrOf result PlayFault.SinkFailed → AppendsFront (K.written sink.old) piece.now (K.written sink.new) }
     ensures counts { K.faults sink.old ≤ K.faults sink.new }

@@ -1,5 +1,6 @@
 //! The top call: words, shelf and sink in, the status out.
 ghost use Rattle.std.specs.Prelude.{◌≡◌, ◌≤◌, List, ℕ, Option, map, IfSome, MatchOption, string_bytes};
+ghost use Rattle.driver.specs.Around.{Input, input, output, around};
 ghost use Rattle.driver.specs.Program.{IsPlay, IsFormat, IsAnswer, IsFormatAnswer, IsComplete, status_of};
 ghost use Rattle.driver.specs.Answers.{BytesAreBook, BytesAreScript, IsBookAnswer, IsScriptAnswer, IsWriting, WordsAnswer, HasReadBook, outcome_of, ended_with};
 
@@ -21,13 +22,14 @@ const MOST_BYTES: u64 = 8_388_609;
 /// over the book of that name, and writes the transcript to the sink; `format BOOK` is
 /// [`format_command`].
 ///
-/// Both are read from the shelf and may have 8,388,608 bytes. The notices of the book are one write,
-/// each script line that prints is one, and so is the end. Code cells are evaluated on the caller's
-/// thread; the gate isn't used yet.
+/// Both are read from the shelf, the book first, each once, and may have 8,388,608 bytes. The notices
+/// of the book are one write, each script line that prints is one, and so is the end. Code cells are
+/// evaluated on the caller's thread; the gate isn't used yet.
 ///
-/// At the statuses 1 to 5 nothing is written. At status 6 of `play` a front of the transcript was
-/// written, or of what the lines so far print, and the report is of their history. Where words, book
-/// and script are in order and neither shelf nor sink fails, the status is 0, or 7 for want of memory.
+/// At the statuses 1 to 5 nothing is written, and no write asked for. At status 6 of `play` a front of
+/// the transcript was written, or of what the lines so far print, and the report is of their history.
+/// Where words, book and script are in order and neither shelf nor sink fails, the status is 0, or 7
+/// for want of memory.
 pub fn program<R: Threads + Wait + Sync, S: Shelf, K: Sink + Send, G: Gate>(
     rt: &R,
     alloc: Global,
@@ -37,8 +39,16 @@ pub fn program<R: Threads + Wait + Sync, S: Shelf, K: Sink + Send, G: Gate>(
     _gate: &G,
 ) -> Outcome
     ensures status { result.status ≡ status_of result.fault }
-    ensures answer { IsAnswer (map string_bytes words.now) (S.held shelf.old) (S.faults shelf.old) (S.faults shelf.new) (K.faults sink.old) (K.faults sink.new) (K.written sink.old) (K.written sink.new) result.report result.fault }
-    ensures complete { IsComplete (map string_bytes words.now) (S.held shelf.old) (S.faults shelf.old) (S.faults shelf.new) (K.faults sink.old) (K.faults sink.new) result.fault }
+    ensures answer { IsAnswer (map string_bytes words.now)
+        (around (S.held shelf.old)
+        (input S.reads S.faults shelf.old) (input S.reads S.faults shelf.new)
+        (output K.writes K.faults K.written sink.old) (output K.writes K.faults K.written sink.new))
+        result.report result.fault }
+    ensures complete { IsComplete (map string_bytes words.now)
+        (around (S.held shelf.old)
+        (input S.reads S.faults shelf.old) (input S.reads S.faults shelf.new)
+        (output K.writes K.faults K.written sink.old) (output K.writes K.faults K.written sink.new))
+        result.fault }
 {
     match play_words(words) {
         Some((book, script)) => run(rt, alloc, book, script, shelf, sink),
@@ -58,7 +68,11 @@ pub fn format_command<S: Shelf, K: Sink>(
     sink: &mut K,
 ) -> Outcome
     ensures status { result.status ≡ status_of result.fault }
-    ensures answer { IsFormatAnswer name.now (S.held shelf.old) (S.faults shelf.old) (S.faults shelf.new) (K.faults sink.old) (K.faults sink.new) (K.written sink.old) (K.written sink.new) result.report result.fault }
+    ensures answer { IsFormatAnswer name.now
+        (around (S.held shelf.old)
+        (input S.reads S.faults shelf.old) (input S.reads S.faults shelf.new)
+        (output K.writes K.faults K.written sink.old) (output K.writes K.faults K.written sink.new))
+        result.report result.fault }
 {
     match read_book(alloc, name, shelf) {
         Ok(book) => write_book(alloc, &book.notebook, sink),
@@ -75,7 +89,11 @@ fn run_format<S: Shelf, K: Sink>(
 ) -> Outcome
     requires { (book script : List ℕ) → ¬ IsPlay (map string_bytes words.now) book script }
     ensures status { result.status ≡ status_of result.fault }
-    ensures answer { IsAnswer (map string_bytes words.now) (S.held shelf.old) (S.faults shelf.old) (S.faults shelf.new) (K.faults sink.old) (K.faults sink.new) (K.written sink.old) (K.written sink.new) result.report result.fault }
+    ensures answer { IsAnswer (map string_bytes words.now)
+        (around (S.held shelf.old)
+        (input S.reads S.faults shelf.old) (input S.reads S.faults shelf.new)
+        (output K.writes K.faults K.written sink.old) (output K.writes K.faults K.written sink.new))
+        result.report result.fault }
 {
     match format_word(words) {
         Some(book) => format_command(alloc, book, shelf, sink),
@@ -134,7 +152,11 @@ fn run<R: Wait, S: Shelf, K: Sink>(
     sink: &mut K,
 ) -> Outcome
     ensures status { result.status ≡ status_of result.fault }
-    ensures answer { (words : List (List ℕ)) → IsPlay words book.now script.now → IsAnswer words (S.held shelf.old) (S.faults shelf.old) (S.faults shelf.new) (K.faults sink.old) (K.faults sink.new) (K.written sink.old) (K.written sink.new) result.report result.fault }
+    ensures answer { (words : List (List ℕ)) → IsPlay words book.now script.now → IsAnswer words
+        (around (S.held shelf.old)
+        (input S.reads S.faults shelf.old) (input S.reads S.faults shelf.new)
+        (output K.writes K.faults K.written sink.old) (output K.writes K.faults K.written sink.new))
+        result.report result.fault }
 {
     match read_book(alloc, book, shelf) {
         Ok(book) => run_script(rt, alloc, book, script, shelf, sink),
@@ -152,7 +174,13 @@ fn run_script<R: Wait, S: Shelf, K: Sink>(
     sink: &mut K,
 ) -> Outcome
     ensures status { result.status ≡ status_of result.fault }
-    ensures answer { (words : List (List ℕ)) → HasReadBook words (S.held shelf.old) script.now book → IsAnswer words (S.held shelf.old) (S.faults shelf.old) (S.faults shelf.new) (K.faults sink.old) (K.faults sink.new) (K.written sink.old) (K.written sink.new) result.report result.fault }
+    ensures answer { (words : List (List ℕ)) (first : Input)
+        → HasReadBook words (S.held shelf.old) script.now book first (input S.reads S.faults shelf.old)
+        → IsAnswer words
+        (around (S.held shelf.old)
+        first (input S.reads S.faults shelf.new)
+        (output K.writes K.faults K.written sink.old) (output K.writes K.faults K.written sink.new))
+        result.report result.fault }
 {
     match read_lines(alloc, script, shelf) {
         Ok(script) => {
@@ -166,7 +194,7 @@ fn run_script<R: Wait, S: Shelf, K: Sink>(
                 sink,
             ))
         }
-        Err(fault) => ended(fault),
+        Err(why) => ended(why),
     }
 }
 
@@ -174,7 +202,9 @@ fn run_script<R: Wait, S: Shelf, K: Sink>(
 fn write_book<K: Sink>(alloc: Global, book: &Notebook, sink: &mut K) -> Outcome
     ensures status { result.status ≡ status_of result.fault }
     ensures report { result.report ≡ None }
-    ensures written { IsWriting book.now (K.faults sink.old) (K.faults sink.new) (K.written sink.old) (K.written sink.new) result.fault }
+    ensures written { IsWriting book.now
+        (output K.writes K.faults K.written sink.old) (output K.writes K.faults K.written sink.new)
+        result.fault }
 {
     let text = match write(alloc, book) {
         Ok(text) => text,
@@ -212,7 +242,9 @@ fn finished(played: Played) -> Outcome
 
 /// The book of a name.
 fn read_book<S: Shelf>(alloc: Global, name: &str, shelf: &mut S) -> Result<Read, RunFault>
-    ensures answer { IsBookAnswer (S.held shelf.old) name.now (S.faults shelf.old) (S.faults shelf.new) result }
+    ensures answer { IsBookAnswer (S.held shelf.old) name.now
+        (input S.reads S.faults shelf.old) (input S.reads S.faults shelf.new)
+        result }
     ensures same { S.held shelf.new ≡ S.held shelf.old }
     ensures counts { S.faults shelf.old ≤ S.faults shelf.new }
 {
@@ -225,7 +257,9 @@ fn read_book<S: Shelf>(alloc: Global, name: &str, shelf: &mut S) -> Result<Read,
 
 /// The script of a name.
 fn read_lines<S: Shelf>(alloc: Global, name: &str, shelf: &mut S) -> Result<Script, RunFault>
-    ensures answer { IsScriptAnswer (S.held shelf.old) name.now (S.faults shelf.old) (S.faults shelf.new) result }
+    ensures answer { IsScriptAnswer (S.held shelf.old) name.now
+        (input S.reads S.faults shelf.old) (input S.reads S.faults shelf.new)
+        result }
 {
     match shelf.read(alloc, name, MOST_BYTES) {
         Ok(bytes) => script_of(alloc, bytes.as_slice()),

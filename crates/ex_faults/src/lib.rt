@@ -8,6 +8,3 @@
 mod fault;
 
 pub use fault::{Fault, fault_text};
-
-#[cfg(test)]
-mod tests;

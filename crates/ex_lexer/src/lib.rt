@@ -48,6 +48,3 @@ pub fn tokens(alloc: Global, source: &str) -> Result<Vec<Token>, LexError>
         Err(_) => Err(LexError::OutOfMemory),
     }
 }
-
-#[cfg(test)]
-mod tests;

@@ -188,6 +188,3 @@ fn shown(alloc: Global, outcome: Outcome, steps: u64) -> Result<Shown, AllocErro
         steps,
     })
 }
-
-#[cfg(test)]
-mod tests;

@@ -18,6 +18,3 @@ pub use ast::{Ast, Node, Operator, Parts};
 pub use bindings::{Binding, Bindings};
 pub use fault::{Fault, fault_text};
 pub use ran::{Outcome, Ran, Shown};
-
-#[cfg(test)]
-mod tests;

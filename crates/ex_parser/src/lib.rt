@@ -58,6 +58,3 @@ pub fn parse(alloc: Global, source: &str) -> Result<Ast, ParseError>
         Err(_) => Err(ParseError::OutOfMemory),
     }
 }
-
-#[cfg(test)]
-mod tests;

@@ -21,6 +21,3 @@ mod texting;
 
 pub use calls::{CallError, Called, call};
 pub use functions::{Binary, Unary};
-
-#[cfg(test)]
-mod tests;

@@ -14,6 +14,3 @@ mod reading;
 mod tokens;
 
 pub use reading::read;
-
-#[cfg(test)]
-mod tests;

@@ -18,6 +18,3 @@ mod values;
 pub use error::DisplayError;
 pub use items::size_together;
 pub use values::{Items, Value};
-
-#[cfg(test)]
-mod tests;

@@ -167,6 +167,3 @@ fn is_value_word(text: &str) -> bool
 {
     text == "nil" || text == "true" || text == "false"
 }
-
-#[cfg(test)]
-mod tests;

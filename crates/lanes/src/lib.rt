@@ -7,8 +7,6 @@
 
 mod change;
 mod judge;
-#[cfg(test)]
-mod tests;
 mod walk;
 mod work;
 

@@ -10,4 +10,5 @@ mod Tidiness
 pub mod TidyBooks
 mod TidyTexts
 pub mod Trimming
+pub mod Twice
 mod Worked

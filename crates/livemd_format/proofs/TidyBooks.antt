@@ -83,17 +83,17 @@ number_at [] rest id i next h = absurd h
 number_at (s ∷ ss) rest id zero next h = ap (λ (b : Bool). cond b next (number_from (suc next) id (ss ++ rest))) h.0 ∙ (let e : next ≡ next + 0 = omega arith in e)
 number_at (s ∷ ss) rest id (suc i) next h = ap (λ (b : Bool). cond b next (number_from (suc next) id (ss ++ rest))) h.0 ∙ (number_at ss rest id i (suc next) h.1 ∙ (let e : suc next + i ≡ next + suc i = omega arith in e))
 
--- tidy sections are found by their numbers
+-- tidy sections are found by their numbers; the number behind the last is none's
 same_number : (n : ℕ) → (n == n + 0) ≡ true
 same_number n = grind (arith, nat_tests)
 
 later_number : (n i : ℕ) → (n == n + suc i) ≡ false
 later_number n i = grind (arith, nat_tests)
 
-index_of : (all ss : List Section) (i k number next : ℕ) → i < length ss → number_from k (number + i) (tidy_sections all number next ss) ≡ k + i
-index_of all [] i k number next lt = absurd (omega arith)
-index_of all (s ∷ ss) zero k number next lt = ap (λ (b : Bool). cond b k (number_from (suc k) (number + 0) (tidy_sections all (suc number) (next + length (tidy_cells s.cells)) ss))) (same_number number) ∙ (let e : k ≡ k + 0 = omega arith in e)
-index_of all (s ∷ ss) (suc i) k number next lt =
+pub index_of : (all ss : List Section) (i k number next : ℕ) → i ≤ length ss → number_from k (number + i) (tidy_sections all number next ss) ≡ k + i
+index_of all [] i k number next le = let e : k ≡ k + i = omega arith in e
+index_of all (s ∷ ss) zero k number next le = ap (λ (b : Bool). cond b k (number_from (suc k) (number + 0) (tidy_sections all (suc number) (next + length (tidy_cells s.cells)) ss))) (same_number number) ∙ (let e : k ≡ k + 0 = omega arith in e)
+index_of all (s ∷ ss) (suc i) k number next le =
     let more : List Section = tidy_sections all (suc number) (next + length (tidy_cells s.cells)) ss in
     let n : number + suc i ≡ suc number + i = omega arith in
     ap (λ (b : Bool). cond b k (number_from (suc k) (number + suc i) more)) (later_number number i)
@@ -132,7 +132,7 @@ parent_found all front rest fronts (Some id) d e few m (s, (there, (i, p))) =
     let number : number_from 1 id all ≡ 1 + at.0 = ap (number_from 1 id) e ∙ number_at front rest id at.0 1 at.1 in
     let within : at.0 < length all = rw e (stem_within front rest id at.0 at.1) in
     let z : 0 + at.0 ≡ at.0 = omega arith in
-    let index : number_from 0 (number_from 1 id all) (tidy_sections all 1 1 all) ≡ at.0 = ap (λ n. number_from 0 n (tidy_sections all 1 1 all)) number ∙ (index_of all all at.0 0 1 1 within ∙ z) in
+    let index : number_from 0 (number_from 1 id all) (tidy_sections all 1 1 all) ≡ at.0 = ap (λ n. number_from 0 n (tidy_sections all 1 1 all)) number ∙ (index_of all all at.0 0 1 1 (omega (arith, within)) ∙ z) in
     (ap (λ k. stem_at k fronts) index ∙ (stem_mirrored 1 front fronts id at.0 m at.1 ∙ ap Some (sym number)), omega (arith, index, within))
 
 -- ---- sections

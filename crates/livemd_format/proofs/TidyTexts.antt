@@ -25,7 +25,7 @@ use Rattle.livemd_format.proofs.Trimming.{all_end, all_front, all_more, drop_end
 
 -- ---- names
 
-or_false : (a b : Bool) → (a || b) ≡ false → (a ≡ false) × (b ≡ false)
+pub or_false : (a b : Bool) → (a || b) ≡ false → (a ≡ false) × (b ≡ false)
 or_false true b h = absurd cc
 or_false false b h = (refl, h)
 
@@ -50,14 +50,14 @@ spaced_step c true b e f = (refl, refl)
 spaced_step c false true e f = (refl, refl)
 spaced_step c false false e f = (e, f)
 
-spaced_none : (l : List ℕ) → (list_any is_lf (map spaced l) ≡ false) × (list_any is_cr (map spaced l) ≡ false)
+pub spaced_none : (l : List ℕ) → (list_any is_lf (map spaced l) ≡ false) × (list_any is_cr (map spaced l) ≡ false)
 spaced_none [] = (refl, refl)
 spaced_none (c ∷ l) =
     let s = spaced_step c (c == 10) (c == 13) refl refl in
     let r = spaced_none l in
     (rw s.0 r.0, rw s.1 r.1)
 
-trimmed_front : (p : ℕ → Bool) (l : List ℕ) → drop_front p (drop_end p (drop_front p l)) ≡ drop_end p (drop_front p l)
+pub trimmed_front : (p : ℕ → Bool) (l : List ℕ) → drop_front p (drop_end p (drop_front p l)) ≡ drop_end p (drop_front p l)
 trimmed_front p [] = refl
 trimmed_front p (c ∷ l) =
     elim (p c)
@@ -65,7 +65,7 @@ trimmed_front p (c ∷ l) =
     [ true ↦ λ e. trimmed_front p l | false ↦ λ e. rw (e, e) refl ]
     refl
 
-name_none : (p : ℕ → Bool) (bs : List ℕ) → list_any p (map spaced (clean bs)) ≡ false → list_any p (tidy_name bs) ≡ false
+pub name_none : (p : ℕ → Bool) (bs : List ℕ) → list_any p (map spaced (clean bs)) ≡ false → list_any p (tidy_name bs) ≡ false
 name_none p bs h = none_end p is_space (drop_front is_space (map spaced (clean bs))) (none_front p is_space (map spaced (clean bs)) h)
 
 pub name_tidy : (t : List ℕ) → AreScalars t → IsTidyName (changed tidy_name t)
@@ -94,7 +94,7 @@ cr_outer : (c : ℕ) → is_cr c ≡ true → is_outer c ≡ true
 cr_outer c h = rw h (or_true (is_space_or_tab c))
 
 -- one line without carriage returns at its end is clean
-clean_line : (bs : List ℕ) → IsLine bs → clean bs ≡ bs
+pub clean_line : (bs : List ℕ) → IsLine bs → clean bs ≡ bs
 clean_line bs h = ap (λ ps. joined (map (drop_end is_cr) ps)) (one_piece bs h.0) ∙ h.1
 
 bytes_line : (t : List ℕ) → HasNoFeed t → drop_end is_cr t ≡ t → IsLine (encode_utf8_all t)
@@ -254,7 +254,7 @@ closed_end (Some f) ls h e = drop_end-kept is_blank ls (replicate f.count (byte_
 -- ---- Markdown text
 
 -- the first line isn't blank, if there is one
-abbrev BeginsWell : List (List ℕ) → Type 0
+abbrev pub BeginsWell : List (List ℕ) → Type 0
 BeginsWell [] = Unit {0}
 BeginsWell (l ∷ ls) = is_blank l ≡ false
 
@@ -280,13 +280,13 @@ more_begins (l ∷ ls) more g h = h
 closed_begins : (ls : List (List ℕ)) → BeginsWell ls → BeginsWell (closed ls)
 closed_begins ls h = more_begins ls (closing_lines (open_behind None ls)) (λ e. subst (λ ms. BeginsWell (closing_lines (open_behind None ms))) (sym e) tt) h
 
-record AreTidyLines (ls : List (List ℕ)) : Type 0 where
-  all : AllByRecursion IsLine ls
-  begin : BeginsWell ls
-  end : drop_end is_blank ls ≡ ls
-  closed : open_behind None ls ≡ None
+pub record AreTidyLines (ls : List (List ℕ)) : Type 0 where
+  pub all : AllByRecursion IsLine ls
+  pub begin : BeginsWell ls
+  pub end : drop_end is_blank ls ≡ ls
+  pub closed : open_behind None ls ≡ None
 
-lines_tidy : (bs : List ℕ) → AreTidyLines (tidy_lines bs)
+pub lines_tidy : (bs : List ℕ) → AreTidyLines (tidy_lines bs)
 lines_tidy bs =
     let front : List (List ℕ) = drop_front is_blank (clean_pieces bs) in
     let inner : List (List ℕ) = unblanked (clean_pieces bs) in

@@ -139,14 +139,14 @@ pieces_behind : (l rest : List ℕ) → HasNoFeed l → slice_split is_lf (l ++ 
 pieces_behind [] rest h = refl
 pieces_behind (c ∷ l) rest h = rw (h.0, pieces_behind l rest h.1) refl
 
-pieces-joined : (l : List ℕ) (ls : List (List ℕ)) → AllByRecursion HasNoFeed (l ∷ ls) → pieces (joined (l ∷ ls)) ≡ l ∷ ls
+pub pieces-joined : (l : List ℕ) (ls : List (List ℕ)) → AllByRecursion HasNoFeed (l ∷ ls) → pieces (joined (l ∷ ls)) ≡ l ∷ ls
 pieces-joined l [] h = one_piece l h.0
 pieces-joined l (k ∷ ls) h = pieces_behind l (joined (k ∷ ls)) h.0 ∙ ap (λ w. l ∷ w) (pieces-joined k ls h.1)
 
 pub joined-pieces : (t : List ℕ) → joined (pieces t) ≡ t
 joined-pieces t = join_with_byte-slice_split 10 t
 
-feeds_of_lines : (ls : List (List ℕ)) → AllByRecursion IsLine ls → AllByRecursion HasNoFeed ls
+pub feeds_of_lines : (ls : List (List ℕ)) → AllByRecursion IsLine ls → AllByRecursion HasNoFeed ls
 feeds_of_lines [] h = tt
 feeds_of_lines (l ∷ ls) h = (h.0.0, feeds_of_lines ls h.1)
 
@@ -209,7 +209,7 @@ enough n m [] le h = tt
 enough n m (l ∷ ls) le h = (omega (arith, h.0), enough n m ls le h.1)
 
 -- lines joined, of which the last isn't blank, are the lines of their text
-no_crs : (ls : List (List ℕ)) → AllByRecursion IsLine ls → map (drop_end is_cr) ls ≡ ls
+pub no_crs : (ls : List (List ℕ)) → AllByRecursion IsLine ls → map (drop_end is_cr) ls ≡ ls
 no_crs [] h = refl
 no_crs (l ∷ ls) h = rw (h.0.1, no_crs ls h.1) refl
 

@@ -16,6 +16,3 @@ mod metadata;
 pub use fences::{Fence, Mark};
 pub use kinds::{Line, LineKind, lines};
 pub use metadata::Metadata;
-
-#[cfg(test)]
-mod tests;

@@ -19,6 +19,3 @@ mod types;
 pub use livemd_format::{Notice, NoticeKind};
 pub use reader::read;
 pub use types::{BookError, Read};
-
-#[cfg(test)]
-mod tests;

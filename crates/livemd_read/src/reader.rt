@@ -40,7 +40,7 @@ pub fn read(alloc: Global, bytes: &[u8]) -> Result<Read, BookError>
         }
     };
     let items = read_items(alloc, text)?;
-    let settled = settle(alloc, items)?;
+    let settled = settle(items);
     if section_count(&settled) > MOST_SECTIONS {
         return Err(BookError::TooManySections);
     }

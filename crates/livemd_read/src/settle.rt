@@ -1,11 +1,11 @@
 //! What branch lines and stamps are, by the items after them.
-ghost use Rattle.std.specs.Prelude.{◌≡◌, ◌∷◌, [], List, IfOk};
+ghost use Rattle.std.specs.Prelude.{◌≡◌, ◌<◌, ◌∷◌, [], List, length, slice_index_or, slice_set};
 ghost use Rattle.livemd_format.specs.Items as format;
 ghost use Rattle.livemd_format.specs.Settled.{is_between, is_branch, is_section, settle, settled};
 ghost use Rattle.livemd_read.specs.Views.{IsBehind, item_of, views};
 
 use crate::items::Item;
-use std::alloc::{AllocError, Global};
+use std::mem;
 
 /// What the items behind one tell it.
 #[derive(Clone, Copy, Debug)]
@@ -102,20 +102,35 @@ impl Behind {
     }
 }
 
-/// The items, settled from the last to the first.
-pub(crate) fn settle<'a>(
-    alloc: Global,
-    mut items: Vec<Item<'a>>,
-) -> Result<Vec<Item<'a>>, AllocError>
-    ensures { IfOk result (λ is. views is.items ≡ settled (views items.entry.items)) }
+/// The item at a place; one that is dropped stands there then.
+fn take_at<'a>(items: &mut Vec<Item<'a>>, at: usize) -> Item<'a>
+    requires { at < length items.old.items }
+    ensures value { result ≡ slice_index_or items.old.items at result }
+    ensures after { items.new.items ≡ slice_set items.old.items at Item.Dropped }
 {
-    let mut done = Vec::with_capacity(alloc, items.len())?;
+    mem::replace(&mut items[at], Item::Dropped)
+}
+
+/// Puts an item at a place, for the one that stands there.
+fn put_at<'a>(items: &mut Vec<Item<'a>>, at: usize, item: Item<'a>)
+    requires { at < length items.old.items }
+    ensures { items.new.items ≡ slice_set items.old.items at item.entry }
+{
+    items[at] = item;
+}
+
+/// The items, settled from the last to the first, each in its place.
+pub(crate) fn settle<'a>(mut items: Vec<Item<'a>>) -> Vec<Item<'a>>
+    ensures { views result.items ≡ settled (views items.entry.items) }
+{
     let mut behind = Behind::nothing();
-    while let Some(item) = items.pop() {
+    let mut at = items.len();
+    while at > 0 {
+        at -= 1;
+        let item = take_at(&mut items, at);
         let before = behind.with(&item);
-        done.push(behind.settle(item))?;
+        put_at(&mut items, at, behind.settle(item));
         behind = before;
     }
-    done.reverse();
-    Ok(done)
+    items
 }

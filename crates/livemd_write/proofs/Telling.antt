@@ -16,6 +16,7 @@ use Rattle.livemd_format.specs.RoundTrip.{AreTexts, HasPlainInfo, IsPlain, IsPla
 use Rattle.livemd_format.specs.Tidy.{number_from, numbered, stays, tidied, tidy_cell, tidy_cells, tidy_outputs, tidy_section, tidy_sections, with_tidy}
 use Rattle.livemd_format.specs.Write.{text_of}
 use Rattle.livemd_format.proofs.ReadBack.{reads-back}
+use Rattle.livemd_format.proofs.Twice.{tidied-twice}
 use Rattle.livemd_write.specs.Told.{told, told_cell, told_saved, told_section}
 use Rattle.livemd_write.proofs.Tidying.{length-map}
 
@@ -149,3 +150,7 @@ read_back n bytes e r h p =
     (λ w. Reads w (tidied n) [])
     (sym e)
     (subst (λ m. Reads (text_of m) m []) (told_same n) (reads-back (told n) (told_rules n r) h (told_plain n p)))
+
+-- the tidy form of a notebook stays when it is tidied, if the texts of which a book is told consist of characters
+pub stays_tidy : (n m : Parts) → m ≡ tidied n → AreTexts (told n) → tidied m ≡ m
+stays_tidy n m e h = subst (λ (k : Parts). tidied k ≡ k) (told_same n ∙ sym e) (tidied-twice (told n) h)

@@ -1,4 +1,5 @@
 pub mod Cells
 pub mod Pages
+pub mod Passages
 pub mod Texts
 pub mod Told

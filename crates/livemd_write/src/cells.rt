@@ -1,5 +1,5 @@
 //! The tidy form of cells.
-ghost use Rattle.std.specs.Prelude.{◌≡◌, ◌++◌, ◌+◌, ◌<◌, ◌≤◌, ◌^◌, List, filter, length, map, IfOk, OnOk};
+ghost use Rattle.std.specs.Prelude.{◌≡◌, ◌++◌, ◌+◌, ◌<◌, ◌≤◌, ◌^◌, [], List, filter, length, map, IfOk, OnOk};
 ghost use Rattle.std.specs.List.{AllByRecursion};
 ghost use Rattle.utf16_text.specs.Units.{AreScalars};
 ghost use Rattle.notebook.specs.declared.parts.Cell.{Cell};
@@ -8,7 +8,8 @@ ghost use Rattle.livemd_format.specs.Tidy.{changed, is_markdown, numbered, stays
 ghost use Rattle.livemd_write.specs.Cells.{PutsCell};
 ghost use Rattle.livemd_write.specs.Told.{told_cell, told_saved};
 
-use crate::texts::{clean_text, tidy_markdown};
+use crate::markdown::tidy_markdown;
+use crate::texts::clean_text;
 use notebook::{Cell, CellId, Kind, Saved};
 use plain_list::Items;
 use std::alloc::{AllocError, Global};
@@ -103,8 +104,32 @@ pub(crate) fn tidy_cell(alloc: Global, id: CellId, cell: &Cell) -> Result<Cell, 
     })
 }
 
+/// Looks at kept lines, for the proof alone: each consists of characters.
+fn look_at(before: &[Text])
+    ensures { AllByRecursion AreScalars before.now }
+{
+    for line in before {
+        line.as_str();
+    }
+}
+
+/// The cell, tidy, without its kept lines, which are many where a book holds many.
+pub(crate) fn tidy_body(alloc: Global, cell: &Cell) -> Result<Cell, AllocError>
+    ensures tidy { IfOk result (λ c. c ≡ record (tidy_cell cell.now) { before = [] }) }
+    ensures characters { OnOk result (AreCellTexts (told_cell cell.now)) }
+{
+    look_at(cell.before.as_slice());
+    Ok(Cell {
+        id: cell.id,
+        kind: cell.kind,
+        source: tidy_source(alloc, cell.kind, &cell.source)?,
+        before: Items::new(alloc),
+        saved: tidy_outputs(alloc, cell.kind, cell.saved.as_slice())?,
+    })
+}
+
 /// Whether a tidy cell stays: an empty Markdown cell goes.
-fn stays(cell: &Cell) -> bool
+pub(crate) fn stays(cell: &Cell) -> bool
     ensures { result ≡ stays cell.now }
 {
     !(is_markdown(cell.kind) && cell.source.is_empty())

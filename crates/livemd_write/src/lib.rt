@@ -7,12 +7,10 @@
 
 mod cells;
 mod fences;
+mod markdown;
 mod page;
 mod texts;
 mod tidy_up;
 mod writer;
 
 pub use writer::{text, tidy, write};
-
-#[cfg(test)]
-mod tests;

@@ -1,17 +1,21 @@
 //! The blocks of a notebook, put one behind the other, each behind an empty line.
-ghost use Rattle.std.specs.Prelude.{◌≡◌, ◌&&◌, ◌<◌, ◌≤◌, ◌++◌, ◌∷◌, [], false, encode_utf8_all, OnOk, string_bytes};
-ghost use Rattle.std.specs.List.{flat_map};
+ghost use Rattle.std.specs.Prelude.{◌≡◌, ◌&&◌, ◌<◌, ◌≤◌, ◌++◌, ◌∷◌, [], false, encode_utf8_all, map, IfOk, OnOk, string_bytes};
+ghost use Rattle.std.specs.List.{AllByRecursion, flat_map};
+ghost use Rattle.utf16_text.specs.Units.{AreScalars};
 ghost use Rattle.livemd_lines.specs.Lines.{is_empty, lines};
 ghost use Rattle.livemd_lines.specs.Kinds.{kinds_of};
 ghost use Rattle.livemd_lines.specs.Views.{kind_view, line_view};
 ghost use Rattle.livemd_lines.specs.Written.{text_of_lines};
 ghost use Rattle.livemd_format.specs.Items.{is_code};
-ghost use Rattle.livemd_format.specs.Tidy.{is_markdown, number_from};
-ghost use Rattle.livemd_format.specs.Write.{blocks, branch_blocks, branch_line, break_blocks, cell_blocks, code_blocks, force, forced_lines, kept_blocks, line_block, markdown_block, needs_force, own_blocks, saved_blocks, section_blocks, setup_blocks};
-ghost use Rattle.livemd_write.specs.Pages.{Puts};
+ghost use Rattle.livemd_format.specs.RoundTrip.{AreCellTexts, AreSectionTexts, AreTexts};
+ghost use Rattle.livemd_format.specs.Tidy.{changed, is_markdown, number_from, tidied, tidy_before, tidy_cell, tidy_cells, tidy_name};
+ghost use Rattle.livemd_format.specs.Write.{blocks, branch_blocks, branch_line, break_blocks, cell_blocks, code_blocks, force, forced_lines, kept_blocks, line_block, markdown_block, needs_force, own_blocks, saved_blocks, setup_blocks};
+ghost use Rattle.livemd_write.specs.Pages.{Puts, PutsCellText, tidy_section_blocks};
+ghost use Rattle.livemd_write.specs.Told.{told, told_cell, told_section};
 
-use crate::cells::is_markdown;
+use crate::cells::{is_markdown, stays, tidy_body, tidy_cell};
 use crate::fences::push_fence;
+use crate::texts::{clean_text, tidy_name};
 use itoa::Buffer;
 use livemd_lines::{Fence, Line, LineKind, Mark};
 use notebook::{Cell, Parts, Saved, Section, SectionId};
@@ -44,6 +48,18 @@ fn push_kept(out: &mut String, before: &[Text]) -> Result<(), AllocError>
     ensures ok { OnOk result (Puts (string_bytes out.old) (kept_blocks before.now) (string_bytes out.new)) }
 {
     for line in before {
+        push_line(out, line.as_str())?;
+    }
+    Ok(())
+}
+
+/// Puts the tidy form of kept lines, each as a block.
+fn push_tidy_kept(alloc: Global, out: &mut String, before: &[Text]) -> Result<(), AllocError>
+    ensures ok { OnOk result (Puts (string_bytes out.old) (kept_blocks (tidy_before before.now)) (string_bytes out.new)) }
+    ensures characters { OnOk result (AllByRecursion AreScalars before.now) }
+{
+    for line in before {
+        let line = clean_text(alloc, line)?;
         push_line(out, line.as_str())?;
     }
     Ok(())
@@ -177,29 +193,34 @@ fn push_break(out: &mut String, after_markdown: bool, cell: &Cell) -> Result<(),
     Ok(())
 }
 
-/// Puts a cell behind another one, or behind the section's heading.
-fn push_cell(
+/// Puts the tidy form of a cell, if it stays, and tells whether a Markdown cell stands last then.
+fn push_tidy_cell(
     alloc: Global,
     out: &mut String,
     after_markdown: bool,
     cell: &Cell,
-) -> Result<(), AllocError>
-    ensures ok { OnOk result (Puts (string_bytes out.old) (cell_blocks after_markdown (cell.now ∷ [])) (string_bytes out.new)) }
+) -> Result<bool, AllocError>
+    ensures puts { IfOk result (PutsCellText (string_bytes out.old) after_markdown cell.now (string_bytes out.new)) }
+    ensures characters { OnOk result (AreCellTexts (told_cell cell.now)) }
 {
+    let body = tidy_body(alloc, cell)?;
+    if !stays(&body) {
+        return Ok(after_markdown);
+    }
     push_break(out, after_markdown, cell)?;
-    push_kept(out, cell.before.as_slice())?;
-    push_own(alloc, out, cell)?;
-    Ok(())
+    push_tidy_kept(alloc, out, cell.before.as_slice())?;
+    push_own(alloc, out, &body)?;
+    Ok(is_markdown(body.kind))
 }
 
-/// Puts the cells of a section.
-fn push_cells(alloc: Global, out: &mut String, cells: &[Cell]) -> Result<(), AllocError>
-    ensures ok { OnOk result (Puts (string_bytes out.old) (cell_blocks false cells.now) (string_bytes out.new)) }
+/// Puts the tidy form of the cells of a section, one after the other, so that no more than one is held.
+fn push_tidy_cells(alloc: Global, out: &mut String, cells: &[Cell]) -> Result<(), AllocError>
+    ensures ok { OnOk result (Puts (string_bytes out.old) (cell_blocks false (tidy_cells cells.now)) (string_bytes out.new)) }
+    ensures characters { OnOk result (AllByRecursion AreCellTexts (map told_cell cells.now)) }
 {
     let mut after_markdown = false;
     for cell in cells {
-        push_cell(alloc, out, after_markdown, cell)?;
-        after_markdown = is_markdown(cell.kind);
+        after_markdown = push_tidy_cell(alloc, out, after_markdown, cell)?;
     }
     Ok(())
 }
@@ -251,40 +272,68 @@ fn push_branch(
     }
 }
 
-/// Puts a section of these.
-fn push_section(
+/// Puts the tidy form of a name, as a heading with the mark.
+fn push_tidy_heading(
+    alloc: Global,
+    out: &mut String,
+    mark: &str,
+    name: &Text,
+) -> Result<(), AllocError>
+    ensures ok { OnOk result (Puts (string_bytes out.old) (line_block (mark.now ++ encode_utf8_all (changed tidy_name name.now)) ∷ []) (string_bytes out.new)) }
+    ensures characters { OnOk result (AreScalars name.now) }
+{
+    let name = tidy_name(alloc, name)?;
+    push_heading(out, mark, &name)?;
+    Ok(())
+}
+
+/// Puts the tidy form of a section of these.
+fn push_tidy_section(
     alloc: Global,
     out: &mut String,
     all: &[Section],
     section: &Section,
 ) -> Result<(), AllocError>
-    ensures ok { OnOk result (Puts (string_bytes out.old) (section_blocks all.now section.now) (string_bytes out.new)) }
+    ensures ok { OnOk result (Puts (string_bytes out.old) (tidy_section_blocks all.now section.now) (string_bytes out.new)) }
+    ensures characters { OnOk result (AreSectionTexts (told_section section.now)) }
 {
-    push_kept(out, section.before.as_slice())?;
+    push_tidy_kept(alloc, out, section.before.as_slice())?;
     push_branch(out, all, section.parent)?;
-    push_heading(out, "## ", &section.name)?;
-    push_cells(alloc, out, section.cells.as_slice())?;
+    push_tidy_heading(alloc, out, "## ", &section.name)?;
+    push_tidy_cells(alloc, out, section.cells.as_slice())?;
     Ok(())
 }
 
-/// Puts all sections.
-fn push_sections(alloc: Global, out: &mut String, all: &[Section]) -> Result<(), AllocError>
-    ensures ok { OnOk result (Puts (string_bytes out.old) (flat_map (section_blocks all.now) all.now) (string_bytes out.new)) }
+/// Puts the tidy form of all sections.
+fn push_tidy_sections(alloc: Global, out: &mut String, all: &[Section]) -> Result<(), AllocError>
+    ensures ok { OnOk result (Puts (string_bytes out.old) (flat_map (tidy_section_blocks all.now) all.now) (string_bytes out.new)) }
+    ensures characters { OnOk result (AllByRecursion AreSectionTexts (map told_section all.now)) }
 {
     for section in all {
-        push_section(alloc, out, all, section)?;
+        push_tidy_section(alloc, out, all, section)?;
     }
     Ok(())
 }
 
-/// Puts the blocks of a notebook.
-pub(crate) fn push_notebook(alloc: Global, out: &mut String, book: &Parts) -> Result<(), AllocError>
-    ensures ok { OnOk result (Puts (string_bytes out.old) (blocks book.now) (string_bytes out.new)) }
+/// Puts the tidy form of the setup cell.
+fn push_tidy_setup(alloc: Global, out: &mut String, cell: &Cell) -> Result<(), AllocError>
+    ensures ok { OnOk result (Puts (string_bytes out.old) (setup_blocks (tidy_cell cell.now)) (string_bytes out.new)) }
+    ensures characters { OnOk result (AreCellTexts (told_cell cell.now)) }
 {
-    push_kept(out, book.before.as_slice())?;
-    push_heading(out, "# ", &book.name)?;
-    push_setup(out, &book.setup)?;
-    push_sections(alloc, out, book.sections.as_slice())?;
-    push_kept(out, book.after.as_slice())?;
+    let tidy = tidy_cell(alloc, cell.id, cell)?;
+    push_setup(out, &tidy)?;
+    Ok(())
+}
+
+/// Puts the blocks of a notebook's tidy form. That form is made cell by cell, and never held whole.
+pub(crate) fn push_tidied(alloc: Global, out: &mut String, book: &Parts) -> Result<(), AllocError>
+    ensures ok { OnOk result (Puts (string_bytes out.old) (blocks (tidied book.now)) (string_bytes out.new)) }
+    ensures characters { OnOk result (AreTexts (told book.now)) }
+{
+    push_tidy_kept(alloc, out, book.before.as_slice())?;
+    push_tidy_heading(alloc, out, "# ", &book.name)?;
+    push_tidy_setup(alloc, out, &book.setup)?;
+    push_tidy_sections(alloc, out, book.sections.as_slice())?;
+    push_tidy_kept(alloc, out, book.after.as_slice())?;
     Ok(())
 }

@@ -6,28 +6,29 @@ ghost use Rattle.livemd_format.specs.RoundTrip.{IsPlain};
 ghost use Rattle.livemd_format.specs.Tidy.{tidied};
 ghost use Rattle.livemd_format.specs.Write.{text_of};
 
-use crate::page::push_notebook;
+use crate::page::push_tidied;
 use crate::tidy_up::tidied;
 use notebook::Notebook;
 use std::alloc::{AllocError, Global};
 
 /// The tidy form of a notebook: what of it a book can tell. Numbers are given anew from 1 on, and the
-/// bin is empty.
+/// bin is empty. Tidied again, it stays as it is.
 pub fn tidy(alloc: Global, book: &Notebook) -> Result<Notebook, AllocError>
-    ensures { IfOk result (λ n. n ≡ tidied book.now) }
+    ensures tidy { IfOk result (λ n. n ≡ tidied book.now) }
+    ensures twice { IfOk result (λ n. tidied n ≡ n) }
 {
     let parts = tidied(alloc, book.parts())?;
     Ok(Notebook::of(parts))
 }
 
-/// What stands behind the line feed with which a text begins; all of it where it begins otherwise.
-fn behind_feed(text: &str) -> &str
-    ensures { (rest : List ℕ) → text.now ≡ 10 ∷ rest → result.now ≡ rest }
+/// A text without the line feed with which it begins.
+fn without_feed(mut text: String) -> String
+    ensures { (rest : List ℕ) → string_bytes text ≡ 10 ∷ rest → string_bytes result ≡ rest }
 {
-    match text.strip_prefix('\n') {
-        Some(rest) => rest,
-        None => text,
+    if !text.is_empty() {
+        text.remove(0);
     }
+    text
 }
 
 /// The text of a notebook's tidy form, as a book. Where each kept line and each info is one that a
@@ -38,11 +39,9 @@ pub fn text(alloc: Global, book: &Notebook) -> Result<String, AllocError>
     ensures reads_back { IfOk result (λ t. IsPlain book.now → Reads (string_bytes t) (tidied book.now) []) }
     ensures accepted { IfOk result (λ t. IsPlain book.now → IsSmall (string_bytes t) → IsAccepted (string_bytes t)) }
 {
-    let parts = tidied(alloc, book.parts())?;
     let mut out = String::new(alloc);
-    push_notebook(alloc, &mut out, &parts)?;
-    let text = String::from_str(alloc, behind_feed(out.as_str()))?;
-    Ok(text)
+    push_tidied(alloc, &mut out, book.parts())?;
+    Ok(without_feed(out))
 }
 
 /// The bytes of [`text`].

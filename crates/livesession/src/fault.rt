@@ -80,32 +80,3 @@ fn kind_word(kind: LineFault) -> &'static str
         LineFault::Unbuilt => "Unbuilt",
     }
 }
-
-#[cfg(test)]
-mod tests {
-    use super::*;
-    use std::test::Fail;
-
-    #[test]
-    fn a_fault_is_told_on_one_line(rt: HostRuntime) -> Result<(), Fail> {
-        let cases = [
-            (RunFault::Usage, "Usage"),
-            (
-                RunFault::BookRefused(BookError::NotUtf8 { at: 0 }),
-                "BookRefused NotUtf8 0",
-            ),
-            (
-                RunFault::ScriptRefused(ScriptError::At {
-                    line: 2,
-                    kind: LineFault::Unbuilt,
-                }),
-                "ScriptRefused At 2 Unbuilt",
-            ),
-        ];
-        for (fault, want) in cases {
-            let line = Told { fault }.to_string(rt.alloc())?;
-            assert_eq!(rt; line.as_str(), want);
-        }
-        Ok(())
-    }
-}

@@ -1,12 +1,14 @@
-//! What composing, transforming, reading sources and taking turns cost: `scripts/bench` starts this program with growing numbers.
+//! What applying, composing and transforming deltas, reading sources and taking turns cost: `scripts/bench` starts this program with growing numbers.
 //!
 //! Without words it does each once at a small size, and prints only what comes out, which is the same at every run.
+//! `edits TIMES` applies an insert in the middle of the text of standard input that many times, and copies the text as often.
 //! `deltas PAIRS` composes and transforms two deltas of that many pairs of steps. `turns THREADS TURNS` takes that many
 //! turns on each thread, at the turn lock and at a mutex. `source` reads a source of a cell from standard input as trees.
-//! These three print microseconds too.
+//! These four print microseconds too.
 #![tactic(auto)]
 
 mod deltas;
+mod edits;
 mod measured;
 mod sources;
 mod turns;
@@ -31,7 +33,9 @@ fn main(rt: HostRuntime) -> io::Result<ExitCode> {
             Ok(ExitCode::from(0))
         }
         None => {
-            eprintln!(rt; "usage: measure [deltas PAIRS | source | turns THREADS TURNS]")?;
+            eprintln!(rt;
+                "usage: measure [edits TIMES | deltas PAIRS | source | turns THREADS TURNS]"
+            )?;
             Ok(ExitCode::from(1))
         }
     }
@@ -44,10 +48,15 @@ fn run<R: Threads + Wait + Sync + Clock + Print + Input>(
 ) -> io::Result<()> {
     match task {
         Task::Small { crew } => {
+            run_edits(rt, alloc, "a text", 10, false)?;
             run_deltas(rt, alloc, 500, false)?;
             run_source(rt, alloc, "x = [1, 2]; Enum.sum(x)", false)?;
             run_turns(rt, alloc, crew, false)?;
             Ok(())
+        }
+        Task::Edits { times } => {
+            let text = io::read_to_string(alloc, rt.reader())?;
+            run_edits(rt, alloc, text.as_str(), times, true)
         }
         Task::Deltas { pairs } => run_deltas(rt, alloc, pairs, true),
         Task::Source => {
@@ -56,6 +65,19 @@ fn run<R: Threads + Wait + Sync + Clock + Print + Input>(
         }
         Task::Turns { crew } => run_turns(rt, alloc, crew, true),
     }
+}
+
+fn run_edits<R: Clock + Print>(
+    rt: &R,
+    alloc: Global,
+    text: &str,
+    times: u64,
+    timed: bool,
+) -> io::Result<()> {
+    let written = edits::measure(rt, alloc, text, times)?;
+    tell(rt, "bytes made by an insert", &written.applied, timed)?;
+    tell(rt, "bytes copied", &written.copied, timed)?;
+    Ok(())
 }
 
 fn run_deltas<R: Clock + Print>(rt: &R, alloc: Global, pairs: u64, timed: bool) -> io::Result<()> {

@@ -13,6 +13,7 @@ pub struct Crew {
 #[derive(Clone, Copy)]
 pub enum Task {
     Small { crew: Crew },
+    Edits { times: u64 },
     Deltas { pairs: u64 },
     Source,
     Turns { crew: Crew },
@@ -27,12 +28,20 @@ pub fn task_of(words: &[String]) -> Option<Task> {
                 turns: 100,
             },
         }),
+        [_, task, times] if task.as_str() == "edits" => edits_of(times.as_str()),
         [_, task, pairs] if task.as_str() == "deltas" => deltas_of(pairs.as_str()),
         [_, task] if task.as_str() == "source" => Some(Task::Source),
         [_, task, threads, turns] if task.as_str() == "turns" => {
             turns_of(threads.as_str(), turns.as_str())
         }
         _ => None,
+    }
+}
+
+fn edits_of(times: &str) -> Option<Task> {
+    match times.parse() {
+        Ok(times) => Some(Task::Edits { times }),
+        Err(_) => None,
     }
 }
 

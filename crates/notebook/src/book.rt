@@ -184,34 +184,3 @@ impl Notebook {
         Ok(ids)
     }
 }
-
-#[cfg(test)]
-mod tests {
-    use super::*;
-    use std::test::Fail;
-
-    #[test]
-    fn a_new_notebook_has_its_setup_cell(rt: HostRuntime) -> Result<(), Fail> {
-        let mut book = Notebook::untitled(rt.alloc())?;
-        assert_eq!(rt; book.parts().name.as_str(), "Untitled notebook");
-        assert!(rt; book.set_source(0, Text::of(rt.alloc(), "x = 1")?));
-        assert!(rt; !book.set_source(1, Text::of(rt.alloc(), "x = 2")?));
-        let copy = book.copy()?;
-        assert_eq!(rt;
-            copy.find(0).map(|cell| cell.source.as_str()),
-            Some("x = 1")
-        );
-        assert!(rt; copy.find(1).is_none());
-        assert_eq!(rt; copy.into_parts().next_cell, 1);
-        Ok(())
-    }
-
-    #[test]
-    fn the_setup_cell_is_its_own_path(rt: HostRuntime) -> Result<(), Fail> {
-        let book = Notebook::untitled(rt.alloc())?;
-        assert_eq!(rt; book.lane(0), Some(Lane::Main));
-        let numbers = book.path(rt.alloc(), 0)?;
-        assert_eq!(rt; numbers.as_slice(), [0].as_slice());
-        Ok(())
-    }
-}

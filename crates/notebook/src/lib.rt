@@ -14,8 +14,6 @@ mod lists;
 mod parts;
 mod sections;
 mod states;
-#[cfg(test)]
-mod tests;
 
 pub use before::{Before, Steps};
 pub use book::Notebook;

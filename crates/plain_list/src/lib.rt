@@ -140,34 +140,3 @@ impl<T: Drop> Items<T> {
         self.items.truncate(len);
     }
 }
-
-#[cfg(test)]
-mod tests {
-    use super::*;
-    use std::test::Fail;
-
-    fn same(x: &u64) -> Result<u64, AllocError>
-        ensures { IfOk result (λ y. y ≡ x.now) }
-    {
-        Ok(*x)
-    }
-
-    #[test]
-    fn grows_lends_and_copies(rt: HostRuntime) -> Result<(), Fail> {
-        let mut list = Items::new(rt.alloc());
-        assert!(rt; list.is_empty());
-        list.push(7)?;
-        list.push(8)?;
-        *list.item_mut(1) = 9;
-        let copy = list.copied_by(same)?;
-        assert_eq!(rt; copy.as_slice(), [7, 9].as_slice());
-        assert_eq!(rt; Items::from_vec(copy.into_vec()).len(), 2);
-        list.push(8)?;
-        list.retain(|x| *x != 9);
-        assert_eq!(rt; list.as_slice(), [7, 8].as_slice());
-        assert_eq!(rt; list.remove(0), 7);
-        list.truncate(1);
-        assert_eq!(rt; list.as_slice(), [8].as_slice());
-        Ok(())
-    }
-}

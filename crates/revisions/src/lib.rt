@@ -17,8 +17,6 @@ mod errors;
 mod floors;
 mod kept;
 mod source_log;
-#[cfg(test)]
-mod tests;
 
 pub use errors::{ReportError, RevError};
 pub use kept::Move;

@@ -22,6 +22,3 @@ pub use content::Content;
 pub use error::{LineFault, ScriptError};
 pub use line::{Count, ScriptLine};
 pub use read::read_script;
-
-#[cfg(test)]
-mod tests;

@@ -18,8 +18,6 @@ mod queueing;
 mod session;
 mod sources;
 mod structure;
-#[cfg(test)]
-mod tests;
 
 pub use job::{PlainJob, STEPS};
 pub use lanes::Row;

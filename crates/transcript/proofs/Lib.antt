@@ -1,4 +1,3 @@
 pub mod Agreeing
 pub mod Revisions
-pub mod Sample
 pub mod Steps

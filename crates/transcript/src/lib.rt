@@ -16,6 +16,3 @@ pub use deltas::push_delta;
 pub use reply::{push_refusal, push_reply, reply_text};
 pub use states::push_state;
 pub use words::{push_named, push_number, push_plain, push_text};
-
-#[cfg(test)]
-mod tests;

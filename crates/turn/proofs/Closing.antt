@@ -1,5 +1,5 @@
 -- What the turn rule says of the table at its end, and of the passes whose seats were joined.
-use Rattle.std.proofs.Common.{◌≡◌, ◌≢◌, ℕ, ◌≤◌, zero, suc, Bool, true, false, cond, nat_lt, List, [], ◌∷◌, ◌++◌, length, map, refl, sym, ap, ◌∙◌, subst, ⊎_elim, arith, Option, Some}
+use Rattle.std.proofs.Common.{◌≡◌, ◌≢◌, ℕ, ◌≤◌, zero, suc, Bool, true, false, cond, nat_lt, max, List, [], ◌∷◌, ◌++◌, length, map, refl, sym, ap, ◌∙◌, subst, ⊎_elim, arith, Option, Some}
 use Rattle.std.specs.Prelude.{sum_by, All}
 use Rattle.std.proofs.lemmas.Bool.Decides.{nat_tests}
 use Rattle.std.proofs.lemmas.List.Sums.{sum_by-cons}
@@ -12,7 +12,7 @@ use lib.ListN.{get_elem?}
 use Rattle.atomic_table.specs.Table.{State, Final, Seen}
 use Rattle.turn.specs.Histories.{entries_by}
 use Rattle.turn.specs.TurnRule.{times, is_live, numbers_of, SomeTurn, IsHome, TurnRule, IsWhole, end_of_pass}
-use Rattle.turn.specs.Passes.{Pass, HaveSeen, IsAllOf}
+use Rattle.turn.specs.Passes.{Pass, HaveSeen, IsAllOf, WereTold}
 use Rattle.turn.specs.declared.rule.View.{View}
 use Rattle.turn.specs.declared.rule.Ended.{Ended}
 use Rattle.turn.proofs.Places.{true_false, sum_one, sum_two, ended_numbers, live_numbers, times_else}
@@ -32,6 +32,14 @@ no_numbers : (q : ℕ) (ns : List ℕ) → length ns ≡ 0 → times q ns ≡ 0
 no_numbers q [] z = refl
 no_numbers q (n ∷ ns) z = absurd (omega arith)
 
+module _ {O E : Type 0} where
+  -- one more pass was told of some entries, and the seat of all of the greatest number
+  pub told_more : (n : ℕ) (passes : List (Pass O E)) (p : Pass O E) → All (λ (q : Pass O E). q.known ≤ n) passes → All (λ (q : Pass O E). q.known ≤ max n p.known) (passes ++ p ∷ [])
+  told_more n passes p all = All-push (λ (q : Pass O E). q.known ≤ max n p.known) passes p (λ k d inside. let h = all k d inside in omega arith) (omega arith)
+
+  pub told_all : (n : ℕ) (log : List E) (passes : List (Pass O E)) (last : Pass O E) → n ≤ length log → All (λ (q : Pass O E). q.known ≤ n) passes → last.known ≤ n → WereTold (passes ++ last ∷ []) log
+  told_all n log passes last few all one = All-push (λ (q : Pass O E). q.known ≤ length log) passes last (λ k d inside. let h = all k d inside in omega arith) (omega arith)
+
 module _ {O E S : Type 0} (list : S → List E) (opening_of : S → O) (number_of : E → ℕ) where
   pub ends : (o : O) (seats : ℕ) (s : State (Option S) (View O E)) (id : ℕ) (v : View O E) → TurnRule list opening_of number_of o seats s → get_elem? s.views id ≡ some v → is_live v ≡ true → v.turn ≡ false → seats ≤ length (numbers_of v)
       → (y : S) × (get_elem? s.homes 0 ≡ some (some (Some y))) × IsWhole list opening_of number_of o v y
@@ -50,6 +58,7 @@ module _ {O E S : Type 0} (list : S → List E) (opening_of : S → O) (number_o
           alone = subst (λ (l : List E). IsPrefix v.alone l × (entries_by number_of v.number l ≡ entries_by number_of v.number v.alone)) (sym home.2)
               (subst (λ (n : ℕ). IsPrefix v.alone r.log × (entries_by number_of n r.log ≡ entries_by number_of n v.alone)) (sym (mine.numbered live)) (mine.alone live));
           past = subst (λ (l : List E). All (Kept l) v.ended) (sym home.2) mine.past;
+          known = subst (λ (l : List E). v.known ≤ length l) (sym home.2) mine.known;
           others = λ q none. ap (entries_by number_of q) home.2 ∙ r.unborn q (
               let f : View O E → ℕ = λ u. times q (numbers_of u) in
               let one = sum_alone m f s.views id v (λ x z. no_numbers q (numbers_of x) z) at (omega arith) in let once : sum_by f s.views ≡ cond (nat_lt q (length s.views)) 1 0 = r.numbers.once q in

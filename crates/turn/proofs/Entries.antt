@@ -24,6 +24,14 @@ module _ {E : Type 0} where
   abbrev head_or : E → List E → E
   head_or d xs = elim xs as (λ _. E) [ [] ↦ d | x ∷ rest ↦ x ]
 
+  -- a beginning is no longer than the list
+  pub prefix_length : (xs ys : List E) → IsPrefix xs ys → length xs ≤ length ys
+  prefix_length xs ys a = let n : length ys ≡ length (xs ++ a.0) = ap length (sym a.1) in let n' = length-append xs a.0 in omega arith
+
+  -- a longer list has as many entries as the shorter one
+  pub known_longer : (least : ℕ) (xs ys : List E) → IsPrefix xs ys → least ≤ length xs → least ≤ length ys
+  known_longer least xs ys a l = let n = prefix_length xs ys a in omega arith
+
   begins : (xs ys r q : List E) → xs ++ r ≡ ys ++ q → length xs ≤ length ys → IsPrefix xs ys
   begins [] ys r q e l = (ys, refl)
   begins (x ∷ xs) [] r q e l = absurd (omega arith)
@@ -52,7 +60,7 @@ module _ {E : Type 0} where
       (⊎_elim (λ (e : xs ≡ log). e) (λ (e : ys ≡ log). let k : length ys ≡ length log = ap length e in full xs a (omega arith)) whole))
 
 module _ {E : Type 0} (number_of : E → ℕ) where
-  entries_append : (p : ℕ) (xs ys : List E) → entries_by number_of p (xs ++ ys) ≡ entries_by number_of p xs ++ entries_by number_of p ys
+  pub entries_append : (p : ℕ) (xs ys : List E) → entries_by number_of p (xs ++ ys) ≡ entries_by number_of p xs ++ entries_by number_of p ys
   entries_append p xs ys = filter-append (λ (e : E). eqb (number_of e) p) xs ys
 
   one_other : (p : ℕ) (e : E) → number_of e ≢ p → entries_by number_of p (e ∷ []) ≡ []
@@ -99,13 +107,20 @@ module _ {E : Type 0} (number_of : E → ℕ) where
       let l1 : length (F log) ≡ length (F xs) + length (F a.0) = ap length one ∙ length-append (F xs) (F a.0) in
       let l2 : length (F log) ≡ 0 = ap length e in empty_of (F xs) (omega arith)
 
+  -- what others added before a turn has no entry under the number
+  pub none_between : (p : ℕ) (seen : List E) (least : ℕ) (found : List E) → (may : MayFind number_of p seen least found) → entries_by number_of p may.begins.0 ≡ []
+  none_between p seen least found may = let F : List E → List E = entries_by number_of p in let rest = may.begins.0 in
+      let one : F found ≡ F seen ++ F rest = ap F (sym may.begins.1) ∙ entries_append p seen rest in
+      let l1 : length (F found) ≡ length (F seen) + length (F rest) = ap length one ∙ length-append (F seen) (F rest) in
+      let l2 : length (F found) ≡ length (F seen) = ap length may.own in empty_of (F rest) (omega arith)
+
   -- a turn that found a list and extended it
-  pub turn_taken : (p : ℕ) (seen found seen' : List E) (act : List E → List E → Type 0) → MayFind number_of p seen found → act found seen' → Extends number_of p found seen' → TakesTurn number_of p seen act seen'
-  turn_taken p seen found seen' act may acted extends = record {
+  pub turn_taken : (p : ℕ) (seen : List E) (least : ℕ) (found seen' : List E) (act : List E → List E → Type 0) → MayFind number_of p seen least found → act found seen' → Extends number_of p found seen' → TakesTurn number_of p seen least act seen'
+  turn_taken p seen least found seen' act may acted extends = record {
     found = found;
     may_find = may;
     acted = acted;
     extends = extends;
-    longer = prefix_trans seen found seen' may.0 (extends_prefix p found seen' extends);
-    own = extends_own p found seen' extends ∙ ap (λ (l : List E). l ++ drop (length found) seen') may.1;
+    longer = prefix_trans seen found seen' may.begins (extends_prefix p found seen' extends);
+    own = extends_own p found seen' extends ∙ ap (λ (l : List E). l ++ drop (length found) seen') may.own;
   }

@@ -41,6 +41,7 @@ module _ {O E S : Type 0} (list : S → List E) (opening_of : S → O) (number_o
       ticket = λ t e. absurd (none_some None t refl e);
       turn = λ on. absurd (true_false false on refl);
       prefix = ([], refl);
+      known = omega arith;
       own = λ _. refl;
       alone = λ _. (([], refl), refl);
       past = All-nil (λ (e : Ended E). IsPrefix e.seen [] × (entries_by number_of e.number [] ≡ entries_by number_of e.number e.seen));
@@ -62,7 +63,7 @@ module _ {O E S : Type 0} (list : S → List E) (opening_of : S → O) (number_o
 module _ {O E : Type 0} where
   -- a seat that was just made, and knows that there are k
   abbrev pub made_view : O → ℕ → ℕ → View O E
-  made_view o n k = record { opening = Some o; number = n; seen = []; alone = []; ticket = None; turn = false; ended = []; made = k }
+  made_view o n k = record { opening = Some o; number = n; seen = []; known = 0; alone = []; ticket = None; turn = false; ended = []; made = k }
 
   pub made_idle : {S : Type 0} (o : O) (n k : ℕ) (m : Me (Option S) (View O E)) → m ≡ (made_view o n k, []) → IsIdle m × IsSingle m.0
   made_idle {S} o n k m e = (

@@ -114,6 +114,7 @@ module _ {O E S : Type 0} (list : S → List E) (opening_of : S → O) (number_o
           ticket = mine.ticket;
           turn = mine.turn;
           prefix = mine.prefix;
+          known = mine.known;
           own = mine.own;
           alone = mine.alone;
           past = mine.past;
@@ -124,6 +125,7 @@ module _ {O E S : Type 0} (list : S → List E) (opening_of : S → O) (number_o
           ticket = λ t e. absurd (none_some None t refl e);
           turn = λ on. absurd (true_false false on refl);
           prefix = mine.prefix;
+          known = mine.known;
           own = λ _. let none_yet = r.unborn (length mid) (omega arith) in none_yet ∙ sym (entries_none number_of (length mid) r.log v.seen mine.prefix none_yet);
           alone = λ _. let none_yet = r.unborn (length mid) (omega arith) in (mine.prefix, none_yet ∙ sym (entries_none number_of (length mid) r.log v.seen mine.prefix none_yet));
           past = All-nil (λ (e : Ended E). IsPrefix e.seen r.log × (entries_by number_of e.number r.log ≡ entries_by number_of e.number e.seen));
@@ -161,6 +163,7 @@ module _ {O E S : Type 0} (list : S → List E) (opening_of : S → O) (number_o
           ticket = λ t e. absurd (none_some None t refl e);
           turn = λ on. absurd (true_false false on refl);
           prefix = (r.log, refl);
+          known = omega arith;
           own = λ on. absurd (true_false false on refl);
           alone = λ on. absurd (true_false false on refl);
           past = All-nil Kept;
@@ -171,6 +174,7 @@ module _ {O E S : Type 0} (list : S → List E) (opening_of : S → O) (number_o
           ticket = mine.ticket;
           turn = λ on. absurd (true_false v.turn on off);
           prefix = prefix_longer r.log v.seen w.seen mine.prefix theirs.prefix;
+          known = let a = mine.known in let b = theirs.known in omega arith;
           own = λ on. entries_longer number_of id r.log v.seen w.seen mine.prefix theirs.prefix (mine.own on);
           alone = mine.alone;
           past = All-append Kept v.ended (end_of w ∷ w.ended) mine.past (All-cons Kept (end_of w) w.ended

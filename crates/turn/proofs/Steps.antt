@@ -1,4 +1,4 @@
--- Each step of a turn keeps the turn rule: draw, look, publish, serve.
+-- Each step of a seat keeps the turn rule: draw, look, publish, serve, and reading the length.
 use Rattle.std.proofs.Common.{◌≡◌, ◌≢◌, ℕ, ◌+◌, ◌%◌, ◌^◌, ◌<◌, ◌≤◌, zero, suc, Bool, true, false, List, [], ◌∷◌, ◌++◌, length, get_or, set, refl, sym, ap, ◌∙◌, subst, ⊎_elim, inl, inr, arith, length-set, Option, Some, None, ◌⊎◌}
 use Rattle.std.specs.Prelude.{is_some, All}
 use Rattle.std.proofs.Math.Nat.{mod-add-mod}
@@ -10,10 +10,10 @@ use lib.ListN.{get_elem?}
 use Rattle.atomic_table.specs.Table.{State, Me, step, keeps, takes, gives, homes_after, rest, Allows}
 use Rattle.atomic_table.proofs.Lists.{set_again, one_turn, set_here}
 use Rattle.turn.specs.Histories.{entries_by, Extends}
-use Rattle.turn.specs.TurnRule.{ticket_count, is_live, IsSeat, SomeTurn, IsHome, TurnRule, with_ticket, in_turn, Drew, Looked, Published, Served}
+use Rattle.turn.specs.TurnRule.{ticket_count, is_live, IsSeat, SomeTurn, IsHome, TurnRule, with_ticket, in_turn, Drew, Looked, Published, Served, Told}
 use Rattle.turn.specs.declared.rule.View.{View}
 use Rattle.turn.specs.declared.rule.Ended.{Ended}
-use Rattle.turn.proofs.Entries.{prefix_refl, prefix_trans, extends_prefix, extends_other}
+use Rattle.turn.proofs.Entries.{prefix_refl, prefix_trans, prefix_length, known_longer, extends_prefix, extends_other}
 use Rattle.turn.proofs.Places.{true_false, none_some, at_inside, each_set, sum_set, drawn_le, apart_set, turn_set, seen_set, numbered_set, maker_set, number_apart}
 
 pub same_ticket : (a b : ℕ) → Some a ≡ Some b → a ≡ b
@@ -53,6 +53,7 @@ module _ {O E S : Type 0} (list : S → List E) (opening_of : S → O) (number_o
     ticket = λ t e. let h = f.ticket t e in let a = h.0 in let b = h.1 in (a, omega arith);
     turn = f.turn;
     prefix = f.prefix;
+    known = f.known;
     own = f.own;
     alone = f.alone;
     past = f.past;
@@ -80,6 +81,7 @@ module _ {O E S : Type 0} (list : S → List E) (opening_of : S → O) (number_o
             ticket = λ t e. let same : r.next ≡ t = same_ticket r.next t e in let c = r.counted in (omega arith, omega arith);
             turn = λ on. absurd (true_false false on refl);
             prefix = mine.prefix;
+            known = mine.known;
             own = mine.own;
             alone = mine.alone;
             past = mine.past;
@@ -137,6 +139,7 @@ module _ {O E S : Type 0} (list : S → List E) (opening_of : S → O) (number_o
             ticket = mine.ticket;
             turn = λ _. (drawn_t ∙ ap Some (sym now), home.2);
             prefix = subst (λ (l : List E). IsPrefix l r.log) (sym home.2) (prefix_refl r.log);
+            known = mine.known;
             own = λ _. ap (entries_by number_of id) (sym home.2);
             alone = λ _. (subst (λ (l : List E). IsPrefix l r.log) (sym home.2) (prefix_refl r.log), ap (entries_by number_of id) (sym home.2));
             past = mine.past;
@@ -153,8 +156,11 @@ module _ {O E S : Type 0} (list : S → List E) (opening_of : S → O) (number_o
             home.0,
             ap (λ (c : List (ℕ × Option S)). (in_turn list opening_of number_of me.0 (list home.0), (0, Some home.0) ∷ c)) empty,
             record {
-              begins = subst (λ (l : List E). IsPrefix me.0.seen l) (sym home.2) mine.prefix;
-              own = subst (λ (p : ℕ). entries_by number_of p (list home.0) ≡ entries_by number_of p me.0.seen) (sym (mine.numbered live)) (ap (entries_by number_of id) home.2 ∙ mine.own live);
+              found = record {
+                begins = subst (λ (l : List E). IsPrefix me.0.seen l) (sym home.2) mine.prefix;
+                own = subst (λ (p : ℕ). entries_by number_of p (list home.0) ≡ entries_by number_of p me.0.seen) (sym (mine.numbered live)) (ap (entries_by number_of id) home.2 ∙ mine.own live);
+                known = subst (λ (l : List E). me.0.known ≤ length l) (sym home.2) mine.known;
+              };
               opened = is_o ∙ ap Some (sym home.3);
             },
           )),
@@ -198,6 +204,7 @@ module _ {O E S : Type 0} (list : S → List E) (opening_of : S → O) (number_o
             ticket = mine.ticket;
             turn = λ _. (now.0, refl);
             prefix = prefix_refl (list y);
+            known = known_longer me.0.known r.log (list y) longer_by mine.known;
             own = λ _. refl;
             alone = λ _. (prefix_refl (list y), refl);
             past = past_stays id me.0 at;
@@ -208,6 +215,7 @@ module _ {O E S : Type 0} (list : S → List E) (opening_of : S → O) (number_o
             ticket = f.ticket;
             turn = λ u_on. absurd (other (r.apart j id u me.0 r.serving e at (f.turn u_on).0 now.0));
             prefix = prefix_trans u.seen r.log (list y) f.prefix longer_by;
+            known = known_longer u.known r.log (list y) longer_by f.known;
             own = λ on_j. extends_other number_of id j r.log (list y) other grown ∙ f.own on_j;
             alone = λ on_j. let a = f.alone on_j in (prefix_trans u.alone r.log (list y) a.0 longer_by, extends_other number_of id j r.log (list y) other grown ∙ a.1);
             past = past_stays j u e;
@@ -246,6 +254,7 @@ module _ {O E S : Type 0} (list : S → List E) (opening_of : S → O) (number_o
             ticket = λ t e. absurd (none_some None t refl e);
             turn = λ off. absurd (true_false false off refl);
             prefix = mine.prefix;
+            known = mine.known;
             own = mine.own;
             alone = mine.alone;
             past = mine.past;
@@ -256,6 +265,7 @@ module _ {O E S : Type 0} (list : S → List E) (opening_of : S → O) (number_o
             ticket = λ t tu. let h = f.ticket t tu in let a = h.0 in let ne : r.serving ≢ t = λ eq. other (r.apart j id u me.0 t e at tu (now.0 ∙ ap Some eq)) in (omega arith, h.1);
             turn = λ u_on. absurd (other (r.apart j id u me.0 r.serving e at (f.turn u_on).0 now.0));
             prefix = f.prefix;
+            known = f.known;
             own = f.own;
             alone = f.alone;
             past = f.past;
@@ -268,4 +278,45 @@ module _ {O E S : Type 0} (list : S → List E) (opening_of : S → O) (number_o
           slot = inl (y, (let P : List (ℕ × Option S) → Type 0 = λ c. get_elem? (homes_after s.homes c gives) 0 ≡ some (some (Some y)) in subst P (sym has) (set_here s.homes 0 (some (Some y)) (let l = r.one_slot in omega arith))), seen ∙ now.1, same_o);
         },
         ap (λ (c : List (ℕ × Option S)). (with_ticket list opening_of number_of me.0 None, rest c)) has,
+      )
+
+  -- the seat reads the length, which is at least what it has seen and what it was told
+  pub tells : (slots id : ℕ) (me : M) → is_live me.0 ≡ true → me.0.turn ≡ false → Allows R slots id me 2 (λ n. n) (Told list opening_of number_of (step slots 2 0 0 none) me)
+  tells slots id me live off s r _ at _ =
+      let mine = r.each id me.0 at in let n : ℕ = get_or s.words 2 0 in let w : V = record me.0 { known = n } in
+      let word : n ≡ length r.log = ap (λ (ws : List ℕ). get_or ws 2 0) r.words in
+      let same : set s.words 2 n ≡ s.words = (let P : List ℕ → Type 0 = λ ws. set ws 2 (get_or ws 2 0) ≡ ws in subst P (sym r.words) refl) in
+      let len = prefix_length me.0.seen r.log mine.prefix in let before = mine.known in (
+        w,
+        keeps,
+        tt,
+        record {
+          next = r.next;
+          serving = r.serving;
+          log = r.log;
+          words = same ∙ r.words;
+          few = let e = length-set s.views id w in let f = r.few in omega arith;
+          most = r.most;
+          counted = let e = sum_set ticket_count s.views id me.0 w at in let c = r.counted in omega arith;
+          apart = apart_set s.views id w r.apart (λ j u t other e tu tw. other (r.apart j id u me.0 t e at tu tw));
+          each = each_set (IsSeat number_of o r.next r.serving r.log) s.views id w record {
+            spent = λ dead. absurd (true_false (is_live me.0) live dead);
+            numbered = mine.numbered;
+            opened = mine.opened;
+            ticket = mine.ticket;
+            turn = mine.turn;
+            prefix = mine.prefix;
+            known = omega arith;
+            own = mine.own;
+            alone = mine.alone;
+            past = mine.past;
+          } (λ j u _ e. r.each j u e);
+          longest = seen_set s.views id me.0 w r.log at live (λ e. e) r.longest;
+          numbers = numbered_set s.views id me.0 w r.numbers at refl;
+          maker = maker_set s.views id me.0 w r.maker at refl;
+          unborn = λ q far. r.unborn q (let e = length-set s.views id w in omega arith);
+          one_slot = r.one_slot;
+          slot = ⊎_elim inl (λ (x : SomeTurn s.views). inr (turn_set s.views id me.0 w at off x)) r.slot;
+        },
+        (omega arith, omega arith, refl),
       )

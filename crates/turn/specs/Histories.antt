@@ -1,7 +1,8 @@
 -- Lists of entries, each under a number, and what one turn does to such a list.
-use Rattle.std.specs.Prelude.{◌≡◌, ℕ, ◌⊎◌, ◌==◌, List, [], ◌∷◌, ◌++◌, length, drop, filter}
+use Rattle.std.specs.Prelude.{◌≡◌, ℕ, ◌≤◌, ◌⊎◌, ◌==◌, List, [], ◌∷◌, ◌++◌, length, drop, filter}
 use mathlib.Core.List.{IsPrefix}
 
+-- For the list behind a lock, and for any other history whose entries each stand under a number.
 module _ {E : Type 0} (number_of : E → ℕ) where
   -- the entries under the number p, in their order
   abbrev pub entries_by : ℕ → List E → List E
@@ -11,14 +12,20 @@ module _ {E : Type 0} (number_of : E → ℕ) where
   abbrev pub Extends : ℕ → List E → List E → Type 0
   Extends p log log' = (log' ≡ log) ⊎ ((e : E) × (number_of e ≡ p) × (log' ≡ log ++ e ∷ []))
 
-  -- what a turn of the number p may find: a list that begins with what p has seen, and has no other entry under p
-  abbrev pub MayFind : ℕ → List E → List E → Type 0
-  MayFind p seen log = IsPrefix seen log × (entries_by p log ≡ entries_by p seen)
+  -- what a turn of the number p may find, where p has seen `seen` and was told that the list has at least so many entries
+  pub record MayFind (p : ℕ) (seen : List E) (least : ℕ) (log : List E) : Type 0 where
+    -- the list begins with what p has seen
+    pub begins : IsPrefix seen log
+    -- under p stand just the entries that p has seen there
+    pub own : entries_by p log ≡ entries_by p seen
+    -- and the list has as many entries as p was told of
+    pub known : least ≤ length log
 
-  -- a turn of p, which had seen `seen` and has now seen `seen'`: the list that it found, and what the act did with it
-  pub record TakesTurn (p : ℕ) (seen : List E) (act : List E → List E → Type 0) (seen' : List E) : Type 0 where
+  -- a turn of p, which had seen `seen`, was told of at least so many entries, and has now seen `seen'`: the list that it found,
+  -- and what the act did with it
+  pub record TakesTurn (p : ℕ) (seen : List E) (least : ℕ) (act : List E → List E → Type 0) (seen' : List E) : Type 0 where
     pub found : List E
-    pub may_find : MayFind p seen found
+    pub may_find : MayFind p seen least found
     pub acted : act found seen'
     pub extends : Extends p found seen'
     -- what p has seen begins with what it had seen

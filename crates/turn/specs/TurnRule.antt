@@ -5,7 +5,7 @@ use mathlib.Core.Option.{some}
 use mathlib.Core.List.{IsPrefix}
 use lib.ListN.{get_elem?}
 use Rattle.atomic_table.specs.Table.{State, Me, Step}
-use Rattle.turn.specs.Histories.{entries_by}
+use Rattle.turn.specs.Histories.{entries_by, MayFind}
 use Rattle.turn.specs.Passes.{Pass}
 use Rattle.turn.specs.declared.rule.View.{View}
 use Rattle.turn.specs.declared.rule.Ended.{Ended}
@@ -23,11 +23,11 @@ module _ {O E : Type 0} where
 
   -- what the first seat knows
   abbrev pub first_view : O → View O E
-  first_view o = record { opening = Some o; number = 0; seen = []; alone = []; ticket = None; turn = false; ended = []; made = 1 }
+  first_view o = record { opening = Some o; number = 0; seen = []; known = 0; alone = []; ticket = None; turn = false; ended = []; made = 1 }
 
   -- what is left of a seat that was joined into another
   abbrev pub spent_view : View O E
-  spent_view = record { opening = None; number = 0; seen = []; alone = []; ticket = None; turn = false; ended = []; made = 0 }
+  spent_view = record { opening = None; number = 0; seen = []; known = 0; alone = []; ticket = None; turn = false; ended = []; made = 0 }
 
   -- whether the seat wasn't joined into another
   abbrev pub is_live : View O E → Bool
@@ -61,6 +61,8 @@ module _ {O E : Type 0} where
     pub turn : v.turn ≡ true → (v.ticket ≡ Some serving) × (v.seen ≡ log)
     -- what a seat has seen is a beginning of the history, so of two such lists one begins the other
     pub prefix : IsPrefix v.seen log
+    -- the history has at least the entries that a seat was told of
+    pub known : v.known ≤ length log
     -- under a live seat's number stand the entries that it has seen there
     pub own : is_live v ≡ true → entries_by number_of i log ≡ entries_by number_of i v.seen
     -- and those that it had seen there before others were joined into it
@@ -143,8 +145,7 @@ module _ {O E : Type 0} where
 
     -- the turn has come, and the state is held: its list is one that the seat may find, its opening the seat's
     pub record IsTaken (v : View O E) (y : S) : Type 0 where
-      pub begins : IsPrefix v.seen (list y)
-      pub own : entries_by number_of v.number (list y) ≡ entries_by number_of v.number v.seen
+      pub found : MayFind number_of v.number v.seen v.known (list y)
       pub opened : v.opening ≡ Some (opening_of y)
 
     -- the seat looked whose turn it is: its own where the value is its ticket
@@ -158,6 +159,11 @@ module _ {O E : Type 0} where
     -- the next ticket is served, and the state is back
     abbrev pub Served : Step (Option S) → Holder → ℕ → Holder → Type 0
     Served st m r m' = m' ≡ (with_ticket m.0 None, [])
+
+    -- the length of the history was read: it is at least the length of what the seat has seen, and what the seat was told before.
+    -- Now the seat is told of that many
+    abbrev pub Told : Step (Option S) → Holder → ℕ → Holder → Type 0
+    Told st m r m' = (length m.0.seen ≤ r) × (m.0.known ≤ r) × (m' ≡ (record m.0 { known = r }, m.1))
 
     -- from drawing to the turn
     abbrev pub HasTurn : Holder → Holder → Type 0
@@ -179,9 +185,9 @@ module _ {O E : Type 0} where
   abbrev pub hands_on : View O E → View O E
   hands_on v = record v { made = 0 }
 
-  -- and the new one has a copy of the opening and of what was seen, a new number, no ticket, and nothing ended
+  -- and the new one has a copy of the opening, of what was seen and of what it was told, a new number, no ticket, and nothing ended
   abbrev pub new_seat : View O E → View O E
-  new_seat v = record { opening = v.opening; number = v.made; seen = v.seen; alone = v.seen; ticket = None; turn = false; ended = []; made = v.made + 1 }
+  new_seat v = record { opening = v.opening; number = v.made; seen = v.seen; known = v.known; alone = v.seen; ticket = None; turn = false; ended = []; made = v.made + 1 }
 
   -- the seat w ends with this number and this list
   abbrev pub end_of : View O E → Ended E
@@ -191,13 +197,14 @@ module _ {O E : Type 0} where
   abbrev pub end_of_pass : Pass O E → Ended E
   end_of_pass p = record { number = p.number; seen = p.seen }
 
-  -- w is joined into v, which takes the longer list and all that has ended
+  -- w is joined into v, which takes the longer list, the greater of the numbers that the two were told, and all that has ended
   abbrev pub joined : View O E → View O E → View O E
-  joined v w = record v { seen = longer v.seen w.seen; ended = v.ended ++ end_of w ∷ w.ended; made = max v.made w.made }
+  joined v w = record v { seen = longer v.seen w.seen; known = max v.known w.known; ended = v.ended ++ end_of w ∷ w.ended; made = max v.made w.made }
 
   -- what a seat that stands for all numbers knows of the state that it finds at the end
   pub record IsWhole {S : Type 0} (list : S → List E) (opening_of : S → O) (number_of : E → ℕ) (opening : O) (v : View O E) (y : S) : Type 0 where
     pub opened : opening_of y ≡ opening
     pub alone : IsPrefix v.alone (list y) × (entries_by number_of v.number (list y) ≡ entries_by number_of v.number v.alone)
     pub past : All (λ e. IsPrefix e.seen (list y) × (entries_by number_of e.number (list y) ≡ entries_by number_of e.number e.seen)) v.ended
+    pub known : v.known ≤ length (list y)
     pub others : (q : ℕ) → times q (numbers_of v) ≡ 0 → entries_by number_of q (list y) ≡ []

@@ -16,6 +16,8 @@ pub struct View<O, E> {
     pub number: u64,
     /// The history as far as the seat has seen it.
     pub seen: LinkedList<E>,
+    /// How many entries the seat was told that the history has at least.
+    pub known: u64,
     /// What the seat had seen before others were joined into it.
     pub alone: LinkedList<E>,
     /// The drawn ticket, counted without end.
@@ -105,6 +107,17 @@ impl<S: Kept> Play<Option<S>, View<S::Opening, S::Entry>> for Serve<S> {
     ghost use Rattle.turn.specs.TurnRule.{Served};
 
     ghost then = { Served S.list S.opening S.number_of };
+}
+
+/// Reads the length of the history.
+pub struct Newest<S> {
+    kept: PhantomData<S>,
+}
+
+impl<S: Kept> Play<Option<S>, View<S::Opening, S::Entry>> for Newest<S> {
+    ghost use Rattle.turn.specs.TurnRule.{Told};
+
+    ghost then = { Told S.list S.opening S.number_of };
 }
 
 /// Makes a new seat.

@@ -1,11 +1,11 @@
 //! The lock and its passes.
 ghost use Rattle.std.specs.Prelude.{◌≡◌, ℕ, ◌+◌, ◌<◌, ◌≤◌, ◌↔◌, List, [], ◌∷◌, ◌++◌, length, map, true, Some, None, IfOk, IfErr, IsErr, All, vec_len};
 ghost use Rattle.turn.specs.Histories.{MayFind, Extends, TakesTurn};
-ghost use Rattle.turn.specs.Passes.{Belongs, fresh_passes, HaveSeen, IsAllOf};
+ghost use Rattle.turn.specs.Passes.{Belongs, fresh_passes, HaveSeen, IsAllOf, WereTold};
 ghost use Rattle.turn.specs.TurnRule.{IsIdle, IsSingle, HasTurn, IsWhole, numbers_of, first_view, end_of_pass};
 
 use crate::kept::{Act, Kept};
-use crate::rule::{Board, Draw, Gather, Look, NewSeat, Place, Publish, Serve, Start};
+use crate::rule::{Board, Draw, Gather, Look, NewSeat, Newest, Place, Publish, Serve, Start};
 use atomic_table::Table;
 use std::alloc::{AllocError, Global};
 use std::marker::Model;
@@ -31,7 +31,7 @@ impl<S: Kept> Model for Turns<S> {
     ghost invariant = { λ t. (t.board.shared.table_id.words ≡ 3) × (t.board.shared.table_id.slots ≡ 1) × (t.board.shared.key.seats ≡ t.seats) × (0 < t.seats) };
 }
 
-/// The right to take turns at one lock. It knows the list that its last turn left.
+/// The right to take turns at one lock. It knows the list that its last turn left, and how many entries `newest` told of.
 #[derive(Drop)]
 pub struct Pass<S: Kept> {
     number: u32,
@@ -46,7 +46,7 @@ impl<S: Kept> Model for Pass<S> {
 
     ghost Value = { Pass S.Opening S.Entry };
 
-    ghost view = { λ p. record { home = p.seat.table_id; opening = p.seat.me.0.opening; number = p.number; seen = p.seat.me.0.seen } };
+    ghost view = { λ p. record { home = p.seat.table_id; opening = p.seat.me.0.opening; number = p.number; seen = p.seat.me.0.seen; known = p.seat.me.0.known } };
 
     ghost invariant = { λ p. IsIdle p.seat.me × IsSingle p.seat.me.0 × (p.seat.me.0.number ≡ p.number) × (length p.seat.me.0.seen ≡ p.count) };
 }
@@ -72,8 +72,8 @@ impl<S: Kept> Pass<S> {
     fn fresh(number: u32, seat: Place<S>) -> Pass<S>
         requires idle { IsIdle seat.me × IsSingle seat.me.0 }
         requires number { seat.me.0.number ≡ number }
-        requires seen { seat.me.0.seen ≡ [] }
-        ensures { result ≡ record { home = seat.table_id; opening = seat.me.0.opening; number = number; seen = [] } }
+        requires seen { (seat.me.0.seen ≡ []) × (seat.me.0.known ≡ 0) }
+        ensures { result ≡ record { home = seat.table_id; opening = seat.me.0.opening; number = number; seen = []; known = 0 } }
     {
         Pass {
             number,
@@ -139,6 +139,7 @@ fn gather<S: Kept>(board: &Board<S>, seat: &mut Place<S>, passes: Vec<Pass<S>>)
     ensures seat { (seat.new.table_id ≡ seat.old.table_id) × (seat.new.id ≡ seat.old.id) × IsIdle seat.new.me }
     ensures same { (seat.new.me.0.number ≡ seat.old.me.0.number) × (seat.new.me.0.alone ≡ seat.old.me.0.alone) }
     ensures ended { seat.new.me.0.ended ≡ seat.old.me.0.ended ++ map end_of_pass passes.items }
+    ensures known { (seat.old.me.0.known ≤ seat.new.me.0.known) × All (λ p. p.known ≤ seat.new.me.0.known) passes.items }
 {
     for pass in passes {
         let Pass {
@@ -207,7 +208,7 @@ impl<S: Kept> Turns<S> {
         ensures own { (seat.new.table_id ≡ seat.old.table_id) × (seat.new.id ≡ seat.old.id) }
         ensures idle { IsIdle seat.new.me }
         ensures seen { (seat.new.me.0.seen ≡ S.list state) × (seat.new.me.0.alone ≡ S.list state) }
-        ensures same { (seat.new.me.0.number ≡ seat.old.me.0.number) × (seat.new.me.0.opening ≡ seat.old.me.0.opening) × (seat.new.me.0.ended ≡ seat.old.me.0.ended) }
+        ensures same { (seat.new.me.0.number ≡ seat.old.me.0.number) × (seat.new.me.0.opening ≡ seat.old.me.0.opening) × (seat.new.me.0.ended ≡ seat.old.me.0.ended) × (seat.new.me.0.known ≡ seat.old.me.0.known) }
         ensures count { result ≡ length (S.list state) }
     {
         let count = state.count();
@@ -228,11 +229,11 @@ impl<S: Kept> Turns<S> {
         requires own { (seat.old.table_id ≡ self.now.home) × (seat.old.me.0.opening ≡ Some self.now.opening) }
         requires idle { IsIdle seat.old.me × IsSingle seat.old.me.0 }
         requires number { seat.old.me.0.number ≡ number }
-        requires condition { (log : List S.Entry) → MayFind S.number_of number seat.old.me.0.seen log → A.condition self.now.opening number log act.old }
+        requires condition { (log : List S.Entry) → MayFind S.number_of number seat.old.me.0.seen seat.old.me.0.known log → A.condition self.now.opening number log act.old }
         ensures own { (seat.new.table_id ≡ seat.old.table_id) × (seat.new.id ≡ seat.old.id) }
         ensures idle { IsIdle seat.new.me × IsSingle seat.new.me.0 }
-        ensures same { (seat.new.me.0.number ≡ seat.old.me.0.number) × (seat.new.me.0.opening ≡ seat.old.me.0.opening) }
-        ensures turn { TakesTurn S.number_of number seat.old.me.0.seen (λ log log'. A.relation self.now.opening number log act.old act.new result.0 log') seat.new.me.0.seen }
+        ensures same { (seat.new.me.0.number ≡ seat.old.me.0.number) × (seat.new.me.0.opening ≡ seat.old.me.0.opening) × (seat.new.me.0.known ≡ seat.old.me.0.known) }
+        ensures turn { TakesTurn S.number_of number seat.old.me.0.seen seat.old.me.0.known (λ log log'. A.relation self.now.opening number log act.old act.new result.0 log') seat.new.me.0.seen }
         ensures count { result.1 ≡ length seat.new.me.0.seen }
     {
         self.enter(rt, seat);
@@ -248,7 +249,8 @@ impl<S: Kept> Turns<S> {
     /// Waits for the pass's turn, and runs the act on the state. The state's list then is what the pass has seen.
     ///
     /// The act's condition has to hold of every list that the turn may find: each that begins with what the pass has
-    /// seen, and has no other entries under its number. Nothing says that the turn ever comes.
+    /// seen, has no other entries under its number, and has at least as many as `newest` told the pass. Nothing says
+    /// that the turn ever comes.
     pub fn with_turn<A: Act<S>, R: Wait>(
         &self,
         rt: &R,
@@ -256,9 +258,10 @@ impl<S: Kept> Turns<S> {
         act: &mut A,
     ) -> A::Answer
         requires belongs { Belongs pass.old self.now }
-        requires condition { (log : List S.Entry) → MayFind S.number_of pass.old.number pass.old.seen log → A.condition self.now.opening pass.old.number log act.old }
-        ensures same { (pass.new.home ≡ pass.old.home) × (pass.new.opening ≡ pass.old.opening) × (pass.new.number ≡ pass.old.number) }
-        ensures turn { TakesTurn S.number_of pass.old.number pass.old.seen (λ log log'. A.relation self.now.opening pass.old.number log act.old act.new result log') pass.new.seen }
+        requires condition { (log : List S.Entry) → MayFind S.number_of pass.old.number pass.old.seen pass.old.known log → A.condition self.now.opening pass.old.number log act.old }
+        ensures same { (pass.new.home ≡ pass.old.home) × (pass.new.opening ≡ pass.old.opening) × (pass.new.number ≡ pass.old.number) × (pass.new.known ≡ pass.old.known) }
+        ensures belongs { Belongs pass.new self.now }
+        ensures turn { TakesTurn S.number_of pass.old.number pass.old.seen pass.old.known (λ log log'. A.relation self.now.opening pass.old.number log act.old act.new result log') pass.new.seen }
     {
         let number = pass.number;
         let (answer, count) = self.run(rt, &mut pass.seat, number, act);
@@ -266,8 +269,22 @@ impl<S: Kept> Turns<S> {
         answer
     }
 
+    /// A number of entries that the state's list has at least, read without a turn: no fewer than the pass has seen,
+    /// and no fewer than it was told before. Each later turn of the pass finds at least so many.
+    pub fn newest(&self, pass: &mut Pass<S>) -> u64
+        requires belongs { Belongs pass.old self.now }
+        ensures same { (pass.new.home ≡ pass.old.home) × (pass.new.opening ≡ pass.old.opening) × (pass.new.number ≡ pass.old.number) × (pass.new.seen ≡ pass.old.seen) }
+        ensures belongs { Belongs pass.new self.now }
+        ensures seen { length pass.old.seen ≤ result }
+        ensures before { pass.old.known ≤ result }
+        ensures known { pass.new.known ≡ result }
+    {
+        self.board.shared.load::<Newest<S>>(&mut pass.seat, 2)
+    }
+
     /// The state, where all passes are given. Its list begins with what each pass has seen, has under each pass's
-    /// number just the entries that the pass has seen there, and no entry under another number.
+    /// number just the entries that the pass has seen there, has no entry under another number, and has as many entries
+    /// as `newest` told any of the passes.
     ///
     /// `StillOpen` exactly where fewer passes are given than the lock has. All of them come back with it.
     pub fn close(self, mut passes: Vec<Pass<S>>) -> Result<S, StillOpen<S>>
@@ -276,6 +293,7 @@ impl<S: Kept> Turns<S> {
         ensures opening { IfOk result (λ s. S.opening s ≡ self.opening) }
         ensures seen { IfOk result (λ s. HaveSeen S.number_of passes.items (S.list s)) }
         ensures others { IfOk result (λ s. IsAllOf S.number_of passes.items (S.list s)) }
+        ensures known { IfOk result (λ s. WereTold passes.items (S.list s)) }
         ensures back { IfErr result (λ e. (e.turns ≡ self) × (e.passes.items ≡ passes.items) × (e.missing + vec_len passes ≡ self.seats)) }
     {
         let given = passes.len();

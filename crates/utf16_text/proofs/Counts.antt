@@ -73,6 +73,10 @@ width_is c r good bmp pair = rw (length-units_of_character c good) (grind (arith
 pub unit_count-push : (xs : List ℕ) (c : ℕ) → unit_count (xs ++ c ∷ []) ≡ unit_count xs + length (units_of_character c)
 unit_count-push xs c = omega (arith, unit_count-append xs (c ∷ []), unit_count-cons c [])
 
+-- the count of a text that has one character more
+pub count_pushed : (cs ds : List ℕ) (c n r : ℕ) → is_scalar c ≡ true → ds ≡ cs ++ c ∷ [] → n ≡ unit_count cs → (c < 0x1_0000 → r ≡ 1) → (0x1_0000 ≤ c → r ≡ 2) → n + r ≡ unit_count ds
+count_pushed cs ds c n r good made counted bmp pair = omega (arith, ap unit_count made, unit_count-push cs c, counted, width_is c r good bmp pair)
+
 pub encodes-push : (xs : List ℕ) (c : ℕ) → length (encode_utf8_all (xs ++ c ∷ [])) ≡ length (encode_utf8_all xs) + length (encode_utf8 c)
 encodes-push xs c = omega (arith, ap length (encodes-append xs (c ∷ [])), length-append (encode_utf8_all xs) (encode_utf8_all (c ∷ [])), length-append (encode_utf8 c) [])
 

@@ -9,10 +9,12 @@
 //! No layer above has to know of bytes.
 #![tactic(auto)]
 
-ghost use Rattle.std.specs.Prelude.{◌≡◌, ◌==◌, ◌<◌, ◌≤◌, ◌↔◌, [], ◌∷◌, ◌++◌, length, take, drop, true, IfOk, OnOk, OnErr, MatchResult};
+ghost use Rattle.std.specs.Prelude.{◌≡◌, ◌==◌, ◌<◌, ◌≤◌, ◌↔◌, ◌+◌, [], ◌∷◌, ◌++◌, length, take, drop, true, IfOk, OnOk, OnErr, MatchResult};
 ghost use Rattle.std.specs.Str.{chars, encode_utf8_all};
 ghost use Rattle.utf16_text.specs.Units.{units, unit_count, decoded, begun_by, paired_with_next, is_high_half, AreScalars, CutsInto, IsPlaceOf, IsCauseOf};
 ghost use Rattle.utf16_text.specs.Pieces.{characters_of};
+ghost use Rattle.utf16_text.specs.Bytes.{begun_at, begun_in, IsFrontOf};
+ghost use Rattle.utf16_text.specs.declared.UnitError.TheVariants.{SplitsPair};
 
 use std::alloc::{AllocError, Global};
 use std::marker::Model;
@@ -29,20 +31,24 @@ pub enum UnitError {
     SplitsPair { at: u64 },
 }
 
-/// An owned text.
+/// An owned text. It keeps the number of its units, so asking for that costs nothing.
 #[derive(Debug, Drop)]
 pub struct Text {
     text: String,
+    units: u64,
 }
 
 impl Model for Text {
-    ghost use Rattle.std.specs.Prelude.{ℕ, List};
+    ghost use Rattle.std.specs.Prelude.{ℕ, List, ◌≡◌};
     ghost use Rattle.std.specs.Str.{chars};
     ghost use Rattle.std.specs.String.{string_bytes};
+    ghost use Rattle.utf16_text.specs.Units.{unit_count};
 
     ghost Value = { List ℕ };
 
     ghost view = { λ t. chars (string_bytes t.text) };
+
+    ghost invariant = { λ t. t.units ≡ unit_count (chars (string_bytes t.text)) };
 }
 
 impl Text {
@@ -52,7 +58,19 @@ impl Text {
     {
         Text {
             text: String::new(alloc),
+            units: 0,
         }
+    }
+
+    /// The empty text with room for so many bytes of UTF-8, so that it takes no more memory while it
+    /// has no more than these.
+    pub fn with_room(alloc: Global, bytes: usize) -> Result<Text, AllocError>
+        ensures { IfOk result (λ t. t ≡ []) }
+    {
+        Ok(Text {
+            text: String::with_capacity(alloc, bytes)?,
+            units: 0,
+        })
     }
 
     /// A copy of a string.
@@ -61,7 +79,15 @@ impl Text {
     {
         Ok(Text {
             text: String::from_str(alloc, s)?,
+            units: unit_len(s),
         })
+    }
+
+    /// The number of the text's UTF-16 units. It takes no memory and no time.
+    pub fn unit_len(&self) -> u64
+        ensures { result ≡ unit_count self.now }
+    {
+        self.units
     }
 
     /// The text as a string slice. Each of its characters is a scalar value.
@@ -86,6 +112,7 @@ impl Text {
     {
         Ok(Text {
             text: self.text.clone()?,
+            units: self.units,
         })
     }
 
@@ -109,6 +136,7 @@ impl Text {
         ensures err { OnErr result (self.new ≡ self.old) }
     {
         self.text.push(c)?;
+        self.units += c.len_utf16() as u64;
         Ok(())
     }
 
@@ -118,20 +146,90 @@ impl Text {
         ensures err { OnErr result (self.new ≡ self.old) }
         ensures scalars { AreScalars self.new }
     {
+        self.push_counted(s, unit_len(s))
+    }
+
+    /// Adds a string at the end, whose number of units is known. After want of memory the text is as
+    /// it was.
+    pub fn push_counted(&mut self, s: &str, units: u64) -> Result<(), AllocError>
+        requires { units ≡ unit_count (chars s.now) }
+        ensures ok { OnOk result (self.new ≡ self.old ++ chars s.now) }
+        ensures err { OnErr result (self.new ≡ self.old) }
+        ensures scalars { AreScalars self.new }
+    {
         self.text.push_str(s)?;
+        self.units += units;
         Ok(())
     }
 }
+
+/// How many bytes are counted together.
+const BLOCK: usize = 64;
 
 /// The number of UTF-16 units of a text. It takes no memory.
 pub fn unit_len(s: &str) -> u64
     ensures { result ≡ unit_count (chars s.now) }
 {
+    let bytes = s.as_bytes();
+    let front = front_within(bytes, u64::MAX);
+    front.units + begun_after(bytes, front.bytes)
+}
+
+/// How many units begin in the bytes from a place on.
+fn begun_after(bytes: &[u8], from: usize) -> u64
+    requires { from ≤ length bytes.now }
+    ensures { result ≡ begun_in (drop from bytes.now) }
+{
     let mut count: u64 = 0;
-    for c in s.chars() {
-        count += c.len_utf16() as u64;
+    for byte in &bytes[from..] {
+        count += begun_at(*byte) as u64;
     }
     count
+}
+
+/// How many units begin with a byte of UTF-8: those of the character that it is the first byte of,
+/// and none where it continues one.
+fn begun_at(byte: u8) -> u8
+    ensures units { result ≡ begun_at byte }
+    ensures few { result ≤ 2 }
+{
+    (byte < 0x80 || byte >= 0xC0) as u8 + (byte >= 0xF0) as u8
+}
+
+/// How many units begin in a block. The sum stays within a byte, so the compiler adds up many bytes
+/// at once.
+fn begun_in(block: &[u8]) -> u8
+    requires { length block.now ≤ 64 }
+    ensures { result ≡ begun_in block.now }
+{
+    let mut count: u8 = 0;
+    for byte in block {
+        count += begun_at(*byte);
+    }
+    count
+}
+
+/// Bytes at the front of a text, and how many units begin in them.
+#[derive(Clone, Copy)]
+struct Front {
+    bytes: usize,
+    units: u64,
+}
+
+/// Whole blocks at the front, in which no more than `most` units begin.
+fn front_within(bytes: &[u8], most: u64) -> Front
+    ensures { IsFrontOf bytes.now most result.bytes result.units }
+{
+    let mut front = Front { bytes: 0, units: 0 };
+    while let Some((block, _)) = bytes[front.bytes..].split_at_checked(BLOCK) {
+        let more = begun_in(block) as u64;
+        if more > most - front.units {
+            break;
+        }
+        front.units += more;
+        front.bytes += BLOCK;
+    }
+    front
 }
 
 /// The UTF-16 units of a text.
@@ -178,22 +276,32 @@ fn paired_with_next(high: u16, after: &[u16]) -> Option<char>
 pub fn byte_of_unit(s: &str, at: u64) -> Result<usize, UnitError>
     ensures { MatchResult result (IsPlaceOf (chars s.now) at) (IsCauseOf (chars s.now) at) }
 {
-    let mut unit: u64 = 0;
-    let mut byte: usize = 0;
-    for c in s.chars() {
-        if unit == at {
-            return Ok(byte);
+    let bytes = s.as_bytes();
+    let front = front_within(bytes, at);
+    let mut unit = front.units;
+    for byte in front.bytes..bytes.len() {
+        let after = unit + begun_at(bytes[byte]) as u64;
+        if at < after {
+            return place_before(byte, unit, at);
         }
-        unit += c.len_utf16() as u64;
-        byte += c.len_utf8();
-        if at < unit {
-            return Err(UnitError::SplitsPair { at });
-        }
+        unit = after;
     }
     if unit == at {
-        return Ok(byte);
+        return Ok(bytes.len());
     }
     Err(UnitError::PastEnd { len: unit })
+}
+
+/// The byte place `byte` of the place `at`, if it is that of the first unit of the character there,
+/// which begins with the unit `unit`.
+fn place_before(byte: usize, unit: u64, at: u64) -> Result<usize, UnitError>
+    ensures { MatchResult result (λ b. (b ≡ byte) × (unit ≡ at)) (λ e. (e ≡ SplitsPair at) × ((unit ≡ at) → ⊥)) }
+{
+    if unit == at {
+        Ok(byte)
+    } else {
+        Err(UnitError::SplitsPair { at })
+    }
 }
 
 /// The text before a place that is counted in units, and the text after it. It takes no memory, and
@@ -203,50 +311,4 @@ pub fn split_units(s: &str, at: u64) -> Result<(&str, &str), UnitError>
 {
     let byte = byte_of_unit(s, at)?;
     Ok((&s[..byte], &s[byte..]))
-}
-
-#[cfg(test)]
-mod tests {
-    use super::*;
-    use std::test::Fail;
-
-    #[test]
-    fn counts_and_cuts(rt: HostRuntime) -> Result<(), Fail> {
-        let text = Text::of(rt.alloc(), "a\u{1F600}é")?;
-        let units = units_of(rt.alloc(), text.as_str())?;
-        let expected = [0x61, 0xD83D, 0xDE00, 0xE9];
-        assert_eq!(rt; units.as_slice(), expected.as_slice());
-        assert_eq!(rt; unit_len(text.as_str()), 4);
-        assert_eq!(rt; byte_of_unit(text.as_str(), 3)?, 5);
-        assert_eq!(rt; split_units(text.as_str(), 3)?, ("a\u{1F600}", "é"));
-        assert_eq!(rt;
-            byte_of_unit(text.as_str(), 2),
-            Err(UnitError::SplitsPair { at: 2 })
-        );
-        assert_eq!(rt;
-            byte_of_unit(text.as_str(), 5),
-            Err(UnitError::PastEnd { len: 4 })
-        );
-        Ok(())
-    }
-
-    #[test]
-    fn makes_texts(rt: HostRuntime) -> Result<(), Fail> {
-        let mut text = Text::new(rt.alloc());
-        assert!(rt; text.is_empty());
-        text.push('a')?;
-        text.push_str("\u{1F600}")?;
-        assert_eq!(rt; text.copy()?.as_str(), "a\u{1F600}");
-        Ok(())
-    }
-
-    #[test]
-    fn leaves_lone_halves_out(rt: HostRuntime) -> Result<(), Fail> {
-        let units = [
-            0xDE00, 0x61, 0xD83D, 0xD83D, 0xDE00, 0xDE00, 0x62, 0xFFFF, 0xD83D,
-        ];
-        let text = Text::of_units(rt.alloc(), &units)?;
-        assert_eq!(rt; text.as_str(), "a\u{1F600}b\u{FFFF}");
-        Ok(())
-    }
 }

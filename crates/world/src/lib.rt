@@ -9,8 +9,6 @@
 #![tactic(auto)]
 
 mod event;
-#[cfg(test)]
-mod tests;
 mod world;
 
 pub use event::Event;

@@ -1,14 +1,29 @@
-use Rattle.livemd_read.proofs.Settling.{none_left, settles_last}
+use Rattle.std.proofs.Common.{refl, ◌∙◌}
+use Rattle.livemd_read.proofs.Settling.{settles_first, settles_on}
 use Rattle.livemd_read.proofs.settle.settle.Goals as goal
 
-pub returns : goal.returns
-returns c =
-    settles_last
+pub loop-at-init : goal.loop-at-init
+loop-at-init c = settles_first c.args.items.items c.len-at.result c.nothing-behind.result (c.len-at.ensures ∙ c.args.items.ok.0) c.nothing-behind.ensures
+
+pub loop-at-preserved : goal.loop-at-preserved
+loop-at-preserved c =
+    settles_on
     c.args.items.items
-    c.loop-item.items.items
-    c.loop-item.done.items
+    c.loop-at.items.items
     _
-    c.loop-item.behind
-    (none_left c.loop-item.items.items _ _ c.in_default.ensures.items c.in_default.ensures.rest c.in_default.ensures.cases.0)
-    c.loop-item.invariant
-    c.reverse.ensures.items
+    _
+    c.loop-at.at
+    _
+    c.take_at-item.result
+    _
+    c.settle.result
+    c.loop-at.behind
+    c.with-before.result
+    c.loop-at-test.true
+    refl
+    c.take_at-item.ensures.value
+    c.take_at-item.ensures.after
+    c.put_at.ensures
+    c.settle.ensures
+    c.with-before.ensures
+    c.loop-at.invariant

@@ -17,13 +17,12 @@ use Rattle.livemd_write.proofs.writer.text.Goals as goal
 
 pub returns : goal.returns
 returns c =
-    let page : c.as_str.result.now ≡ blocks_text (blocks c.in_ok-parts.parts) = c.as_str.ensures.value ∙ (c.in_ok-push_notebook.ensures.ok ∙ ap (λ w. w ++ blocks_text (blocks c.in_ok-parts.parts)) c.new-out.ensures.bytes) in
-    let text : string_bytes c.in_ok-text.text ≡ text_of (tidied c.args.book.now) = c.in_ok-text.ensures.ok ∙ (c.behind_feed.ensures _ (page ∙ page_text c.in_ok-parts.parts) ∙ ap text_of (c.in_ok-parts.ensures.tidy ∙ ap tidied c.parts.ensures.parts)) in
+    let text : string_bytes c.without_feed.result ≡ text_of (tidied c.args.book.now) = c.without_feed.ensures _ (c.in_ok-push_tidied.ensures.ok ∙ (ap (λ w. w ++ blocks_text (blocks (tidied c.parts.result.now))) c.new-out.ensures.bytes ∙ page_text (tidied c.parts.result.now))) ∙ ap (λ (n : Parts). text_of (tidied n)) c.parts.ensures.parts in
     let rules : IsNotebook c.args.book.now = subst (λ (n : Parts). IsNotebook n) c.parts.ensures.parts c.parts.ensures.rules in
-    let reads : IsPlain c.args.book.now → Reads (string_bytes c.in_ok-text.text) (tidied c.args.book.now) [] =
-    read_back c.args.book.now (string_bytes c.in_ok-text.text) text rules (subst (λ (n : Parts). AreTexts (told n)) c.parts.ensures.parts c.in_ok-parts.ensures.characters) in
+    let reads : IsPlain c.args.book.now → Reads (string_bytes c.without_feed.result) (tidied c.args.book.now) [] =
+    read_back c.args.book.now (string_bytes c.without_feed.result) text rules (subst (λ (n : Parts). AreTexts (told n)) c.parts.ensures.parts c.in_ok-push_tidied.ensures.characters) in
     record {
       text = text;
       reads_back = reads;
-      accepted = λ plain small. read_is_accepted (string_bytes c.in_ok-text.text) (tidied c.args.book.now) [] (record { small = small; text = IsUtf8-string_bytes c.in_ok-text.text }) (keeps_rules c.args.book.now rules) (reads plain);
+      accepted = λ plain small. read_is_accepted (string_bytes c.without_feed.result) (tidied c.args.book.now) [] (record { small = small; text = IsUtf8-string_bytes c.without_feed.result }) (keeps_rules c.args.book.now rules) (reads plain);
     }

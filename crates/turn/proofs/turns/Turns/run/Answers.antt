@@ -8,4 +8,4 @@ exchange-held-requires g c = let h = c.enter.ensures.turn in let e : c.enter.new
     (search rules, (Some h.0, e ∙ sym (ap (λ (l : List (ℕ × Option g.row.S.Denot)). (0, Some h.0) ∷ rest l) e)))
 
 pub returns-clause-turn : goal.returns-clause-turn
-returns-clause-turn g c = turn_taken g.S.Kept.number_of _ _ (g.S.Kept.list c.in-Some.state) _ _ (search rules) (search rules) (search rules)
+returns-clause-turn g c = turn_taken g.S.Kept.number_of _ _ _ (g.S.Kept.list c.in-Some.state) _ _ (search rules) (search rules) (search rules)

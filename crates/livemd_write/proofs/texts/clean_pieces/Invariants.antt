@@ -1,7 +1,0 @@
-use Rattle.std.proofs.Common.{◌≡◌, map}
-use Rattle.livemd_lines.specs.Lines.{drop_end, is_cr}
-use Rattle.livemd_write.specs.Texts.{texts}
-use Rattle.livemd_write.proofs.texts.clean_pieces.Given as goal
-
-abbrev pub invariant-loop-piece : goal.invariant-loop-piece
-invariant-loop-piece l = texts l.lines.items ≡ map (drop_end is_cr) (texts l.yielded)

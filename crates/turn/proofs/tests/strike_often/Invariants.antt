@@ -1,5 +1,0 @@
-use Rattle.turn.specs.Passes.{Belongs}
-use Rattle.turn.proofs.tests.strike_often.Given as goal
-
-abbrev pub invariant-loop-turn : goal.invariant-loop-turn
-invariant-loop-turn g l = Belongs l.pass l.turns
