@@ -259,12 +259,15 @@ fn is_third_named(sections: &[Section], wanted: &str) -> bool {
     }
 }
 
+fn are_named(parts: &Parts, book: &str, section: &str) -> bool {
+    parts.name.as_str() == book && is_third_named(parts.sections.as_slice(), section)
+}
+
 impl BookRow for Named {
     fn is_as_wanted_of(&self, alloc: Global, book: &mut Notebook) -> Option<bool> {
         change_all(alloc, book, SMALL)?;
         change_all(alloc, book, self.0)?;
-        let parts = book.parts();
-        Some(parts.name.as_str() == self.1 && is_third_named(parts.sections.as_slice(), self.2))
+        Some(are_named(book.parts(), self.1, self.2))
     }
 }
 
