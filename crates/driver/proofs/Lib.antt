@@ -1,7 +1,6 @@
 pub mod AnswerLaws
 pub mod Asking
 pub mod Evaluating
-pub mod Fronts
 pub mod Leading
 pub mod Lined
 pub mod Looking

@@ -33,7 +33,7 @@ use Rattle.driver.specs.Ends.{IsFresh, HasEnded, EndsWritten, EndsCut, IsPlayedA
 use Rattle.driver.specs.Playing.{ArePlayed, HavePlayed, HaveBrokenOff}
 use Rattle.driver.specs.declared.player.Player.{Player}
 use Rattle.driver.proofs.Once.{all-grown}
-use Rattle.driver.proofs.Fronts.{fronts-show}
+use Rattle.world.proofs.Fronts.{fronts-show}
 use Rattle.driver.proofs.Showing.{listed-lines}
 use Rattle.driver.proofs.Settled.{looked-stands, looked-turns}
 use Rattle.driver.proofs.Readying.{ready-none}

@@ -1,5 +1,5 @@
 -- What a run of a script says: it prints the transcript of one actual history.
-use Rattle.std.specs.Prelude.{◌≡◌, ℕ, ◌+◌, ◌<◌, ◌⊎◌, true, List, [], ◌∷◌, ◌++◌, length, map, take, Some}
+use Rattle.std.specs.Prelude.{◌≡◌, ℕ, ◌+◌, ◌<◌, ◌⊎◌, List, [], ◌∷◌, ◌++◌, length, map, Some}
 use Rattle.delta.specs.declared.Step.{Step}
 use Rattle.delta.specs.Moves.{text_after}
 use Rattle.notebook.specs.declared.parts.Cell.{Cell}
@@ -10,14 +10,11 @@ use Rattle.session_ops.specs.declared.entry.Call.TheVariants.{Client as ByClient
 use Rattle.session_ops.specs.declared.entry.Entry.{Entry}
 use Rattle.session_ops.specs.declared.entry.Reply.{Reply}
 use Rattle.session_ops.specs.declared.entry.Reply.TheVariants.{Started}
-use Rattle.notebook.specs.declared.parts.Passed.{Passed}
 use Rattle.notebook.specs.declared.states.Lane.{Lane}
-use Rattle.notebook.specs.Flow.{path}
-use Rattle.lanes.specs.declared.work.Finished.{Finished}
-use Rattle.lanes.specs.Work.{last_finished, is_evaluated}
-use Rattle.session_ops.specs.State.{State, ChangesNothing, Legal, state, first_source, taken_by, entries_by, ShowsAlong}
+use Rattle.session_ops.specs.State.{State, ChangesNothing, Legal, state, first_source, taken_by, entries_by}
 use Rattle.session_core.specs.Session.{entry_of, ready_lane}
 use Rattle.client_sync.specs.Client.{Client, held}
+use Rattle.world.specs.Claims.{FrontsShow}
 use Rattle.world.specs.Waiting.{IsHonest, IsFairAnswer}
 use Rattle.transcript.specs.Texts.{as_text}
 use Rattle.script.specs.declared.line.ScriptLine.{ScriptLine}
@@ -71,10 +68,6 @@ text_after_all t (x ∷ xs) = text_after_all (text_after x t) xs
 abbrev pub AllGrown : State → Type 0
 AllGrown s = (cell : ℕ) (c : Cell) → found cell (cells s.book) ≡ Some c → c.source ≡ text_after_all (first_source cell s.began) (taken_by cell s.taken)
 
--- each cell that is evaluated shows what one thread gives along the path that it then has
-abbrev pub AllShow : State → Type 0
-AllShow s = (cell : ℕ) (present : List Passed) (f : Finished) → path s.book cell ≡ Some present → last_finished s.work cell ≡ Some f → is_evaluated s.book s.work cell ≡ true → ShowsAlong present f.shown
-
 -- the call answers the evaluation of the number
 abbrev pub IsAnswerOf : ℕ → Call → Type 0
 IsAnswerOf eval (ByClient n op) = ⊥
@@ -118,7 +111,7 @@ pub record IsActual (n0 : Parts) (workers : ℕ) (h : List Entry) (marks : List 
   pub fair : AllFair n0 s.sent
   pub clients : AllClients n0 h s.clients
   pub once : AllGrown (state n0 h)
-  pub evaluated : (k : ℕ) → AllShow (state n0 (take k h))
+  pub evaluated : FrontsShow n0 h
   pub late : LeaveStates n0 h
 
 -- a run that was played to its end: the pieces are the transcript of one actual history

@@ -5,9 +5,11 @@ pub mod Changing
 pub mod Clients
 pub mod Editing
 pub mod Floors
+pub mod Fronts
 pub mod Heard
 pub mod Honest
 pub mod Keeping
+pub mod Messages
 pub mod Mirroring
 pub mod Moving
 pub mod Next

@@ -30,6 +30,8 @@ use Rattle.world.proofs.Clients.{edited-number, reported-message, received-numbe
 use Rattle.world.proofs.Standing.{rest-after, run-opening}
 use Rattle.world.proofs.Honest.{run-whole, run-agree, run-honest, run-heard, run-fair, client-honest}
 use Rattle.world.proofs.Born.{state-touches}
+use Rattle.world.proofs.Fronts.{fronts-show}
+use Rattle.world.proofs.Messages.{run-answers}
 use Rattle.world.proofs.Next.{next-entry}
 use Rattle.world.proofs.Mirroring.{mirrors-append, mirrors-set, mirrors-removed, without-at, without-nobody, client-at, put-at}
 
@@ -212,7 +214,7 @@ do-hold n0 h [] (m ∷ ms) all behind = absurd all
 do-hold n0 h (c ∷ cs) [] all behind = absurd all
 do-hold n0 h (c ∷ cs) (m ∷ ms) all behind = (holds-front n0 h c m all.0 behind.0, do-hold n0 h cs ms all.1 behind.1)
 
-pub run-is : (book : Parts) (es : List Event) (x : World) → IsNotebook book → Plays (run book es) x → IsRun book (run book es) x
+pub run-is : (book : Parts) (es : List Event) (x : World) → IsNotebook book → Plays (run book es) x → IsRun book es (run book es) x
 run-is book es x note is =
     record {
       opening = run-opening book es;
@@ -221,6 +223,8 @@ run-is book es x note is =
       hold = do-hold (run book es).opening (run book es).history x.clients.items (run book es).clients is.clients (run-whole book es note).behind;
       agree = run-agree book es note;
       honest = run-honest book es note;
+      messages = run-answers book es note;
       fair = run-fair book es note;
       heard = run-heard book es note;
+      shown = fronts-show (run book es).opening (run book es).history (run-whole book es note).legal;
     }

@@ -245,58 +245,71 @@ events-opening w (e ∷ es) = events-opening (happens w e) es ∙ event-opening 
 pub run-opening : (n0 : Parts) (es : List Event) → (run n0 es).opening ≡ n0
 run-opening n0 es = events-opening (first_world n0) es
 
--- events keep all of the history under 0
-call-seat : (w : World) (call : Call) → IsOfOneSeat w → IsOfOneSeat (called w call)
-call-seat w call one = all-append IsUnderZero w.history (next_entry w call ∷ []) one (refl, tt)
+-- what each call keeps of a history
+abbrev pub KeptByCalls : (List Entry → Type 0) → Type 0
+KeptByCalls P = (h : List Entry) (e : Entry) → IsUnderZero e → P h → P (h ++ e ∷ [])
 
-joined-seat : (w : World) (n : ℕ) (answer : Reply) → IsOfOneSeat w → IsOfOneSeat (with_joined w n answer)
-joined-seat w n Accepted one = one
-joined-seat w n answer one = one
+module _ (P : List Entry → Type 0) (grows : KeptByCalls P) where
+  call-keeps : (w : World) (call : Call) → P w.history → P (called w call).history
+  call-keeps w call kept = grows w.history (next_entry w call) refl kept
 
-edited-seat : (w : World) (o : Edited) → IsOfOneSeat w → IsOfOneSeat (with_edited w o)
-edited-seat w (Done c) one = one
-edited-seat w NoCell one = one
-edited-seat w EditTooLong one = one
-edited-seat w (Unfit why) one = one
+  joined-keeps : (w : World) (n : ℕ) (answer : Reply) → P w.history → P (with_joined w n answer).history
+  joined-keeps w n Accepted kept = kept
+  joined-keeps w n answer kept = kept
 
-posted-seat : (w : World) (c : Client) (op : Op) → IsOfOneSeat w → IsOfOneSeat (posted w c op)
-posted-seat w c op one = elim (is_postable op) as (λ p. IsOfOneSeat (if p then with_client w (with_message c op) else w)) [ true ↦ one | false ↦ one ]
+  edited-keeps : (w : World) (o : Edited) → P w.history → P (with_edited w o).history
+  edited-keeps w (Done c) kept = kept
+  edited-keeps w NoCell kept = kept
+  edited-keeps w EditTooLong kept = kept
+  edited-keeps w (Unfit why) kept = kept
 
-reported-seat : (w : World) (o : Option Client) → IsOfOneSeat w → IsOfOneSeat (with_reported w o)
-reported-seat w None one = one
-reported-seat w (Some c) one = one
+  posted-keeps : (w : World) (c : Client) (op : Op) → P w.history → P (posted w c op).history
+  posted-keeps w c op kept = elim (is_postable op) as (λ p. P (if p then with_client w (with_message c op) else w).history) [ true ↦ kept | false ↦ kept ]
 
-taken-seat : (w : World) (c : Client) (ops : List Op) → IsOfOneSeat w → IsOfOneSeat (taken w c ops)
-taken-seat w c [] one = one
-taken-seat w c (op ∷ ops) one = call-seat w (ByClient c.number op) one
+  reported-keeps : (w : World) (o : Option Client) → P w.history → P (with_reported w o).history
+  reported-keeps w None kept = kept
+  reported-keeps w (Some c) kept = kept
 
-next-seat : (w : World) (c : Client) (es : List Entry) → IsOfOneSeat w → IsOfOneSeat (delivered_next w c es)
-next-seat w c [] one = one
-next-seat w c (e ∷ es) one = one
+  taken-keeps : (w : World) (c : Client) (ops : List Op) → P w.history → P (taken w c ops).history
+  taken-keeps w c [] kept = kept
+  taken-keeps w c (op ∷ ops) kept = call-keeps w (ByClient c.number op) kept
 
-held-seat : (w : World) (o : Option Client) (act : Client → World) → IsOfOneSeat w → ((c : Client) → IsOfOneSeat (act c)) → IsOfOneSeat (if_held w o act)
-held-seat w None act one f = one
-held-seat w (Some c) act one f = f c
+  next-keeps : (w : World) (c : Client) (es : List Entry) → P w.history → P (delivered_next w c es).history
+  next-keeps w c [] kept = kept
+  next-keeps w c (e ∷ es) kept = kept
 
-raw-seat : (w : World) (n : ℕ) (op : Op) (o : Option Client) → IsOfOneSeat w → IsOfOneSeat (raw w n op o)
-raw-seat w n op None one = call-seat w (ByClient n op) one
-raw-seat w n op (Some c) one = one
+  held-keeps : (w : World) (o : Option Client) (act : Client → World) → P w.history → ((c : Client) → P (act c).history) → P (if_held w o act).history
+  held-keeps w None act kept f = kept
+  held-keeps w (Some c) act kept f = f c
 
-event-seat : (w : World) (e : Event) → IsOfOneSeat w → IsOfOneSeat (happens w e)
-event-seat w (Join n) one = joined-seat (called w (ByClient n Joins)) n (reply (state w.opening w.history) (ByClient n Joins)) (call-seat w (ByClient n Joins) one)
-event-seat w (Leave n) one = call-seat w (ByClient n Leaves) one
-event-seat w (Edit n cell d) one = held-seat w (client_of n w.clients) (λ c. with_edited w (edited w.opening c cell d)) one (λ c. edited-seat w (edited w.opening c cell d) one)
-event-seat w (Post n op) one = held-seat w (client_of n w.clients) (λ c. posted w c op) one (λ c. posted-seat w c op one)
-event-seat w (Report n cell) one = held-seat w (client_of n w.clients) (λ c. with_reported w (reported w.opening c cell)) one (λ c. reported-seat w (reported w.opening c cell) one)
-event-seat w (Take n) one = held-seat w (client_of n w.clients) (λ c. taken w c c.outbox) one (λ c. taken-seat w c c.outbox one)
-event-seat w (Receive n) one = held-seat w (client_of n w.clients) (λ c. delivered_next w c (drop (length c.seen) w.history)) one (λ c. next-seat w c (drop (length c.seen) w.history) one)
-event-seat w (RawJoin n) one = call-seat w (ByClient n Joins) one
-event-seat w (Raw n op) one = raw-seat w n op (client_of n w.clients) one
+  raw-keeps : (w : World) (n : ℕ) (op : Op) (o : Option Client) → P w.history → P (raw w n op o).history
+  raw-keeps w n op None kept = call-keeps w (ByClient n op) kept
+  raw-keeps w n op (Some c) kept = kept
 
-events-seat : (w : World) (es : List Event) → IsOfOneSeat w → IsOfOneSeat (after_events w es)
-events-seat w [] one = one
-events-seat w (e ∷ es) one = events-seat (happens w e) es (event-seat w e one)
+  event-keeps : (w : World) (e : Event) → P w.history → P (happens w e).history
+  event-keeps w (Join n) kept = joined-keeps (called w (ByClient n Joins)) n (reply (state w.opening w.history) (ByClient n Joins)) (call-keeps w (ByClient n Joins) kept)
+  event-keeps w (Leave n) kept = call-keeps w (ByClient n Leaves) kept
+  event-keeps w (Edit n cell d) kept = held-keeps w (client_of n w.clients) (λ c. with_edited w (edited w.opening c cell d)) kept (λ c. edited-keeps w (edited w.opening c cell d) kept)
+  event-keeps w (Post n op) kept = held-keeps w (client_of n w.clients) (λ c. posted w c op) kept (λ c. posted-keeps w c op kept)
+  event-keeps w (Report n cell) kept = held-keeps w (client_of n w.clients) (λ c. with_reported w (reported w.opening c cell)) kept (λ c. reported-keeps w (reported w.opening c cell) kept)
+  event-keeps w (Take n) kept = held-keeps w (client_of n w.clients) (λ c. taken w c c.outbox) kept (λ c. taken-keeps w c c.outbox kept)
+  event-keeps w (Receive n) kept = held-keeps w (client_of n w.clients) (λ c. delivered_next w c (drop (length c.seen) w.history)) kept (λ c. next-keeps w c (drop (length c.seen) w.history) kept)
+  event-keeps w (RawJoin n) kept = call-keeps w (ByClient n Joins) kept
+  event-keeps w (Raw n op) kept = raw-keeps w n op (client_of n w.clients) kept
+
+  -- what each call keeps of a history, each list of events keeps
+  pub events-keep : (w : World) (es : List Event) → P w.history → P (after_events w es).history
+  events-keep w [] kept = kept
+  events-keep w (e ∷ es) kept = events-keep (happens w e) es (event-keeps w e kept)
 
 -- after every list of events all of the history stands under 0
 pub run-seat : (n0 : Parts) (es : List Event) → IsOfOneSeat (run n0 es)
-run-seat n0 es = events-seat (first_world n0) es tt
+run-seat n0 es = events-keep (AllByRecursion IsUnderZero) (λ h e zero one. all-append IsUnderZero h (e ∷ []) one (zero, tt)) (first_world n0) es tt
+
+-- a history that begins with these entries
+abbrev pub BeginsWith : List Entry → List Entry → Type 0
+BeginsWith front h = (later : List Entry) × (h ≡ front ++ later)
+
+-- whatever happens, the history only grows
+pub events-go-on : (w : World) (es : List Event) → BeginsWith w.history (after_events w es).history
+events-go-on w es = events-keep (BeginsWith w.history) (λ h e zero b. (b.0 ++ e ∷ [], ap (λ k. k ++ e ∷ []) b.1 ∙ append_assoc w.history b.0 (e ∷ []))) w es ([], sym (append-nil w.history))

@@ -1,15 +1,19 @@
 -- What holds in a world, whatever has happened.
-use Rattle.std.specs.Prelude.{◌≡◌, ◌≢◌, ℕ, true, List, [], ◌++◌, length, Some}
+use Rattle.std.specs.Prelude.{◌≡◌, ◌≢◌, ℕ, true, List, [], ◌++◌, length, take, Some}
 use Rattle.std.specs.List.{AllByRecursion}
+use Rattle.lanes.specs.declared.work.Finished.{Finished}
+use Rattle.lanes.specs.Work.{last_finished, is_evaluated}
 use Rattle.session_ops.specs.declared.entry.Op.{Op}
 use Rattle.session_ops.specs.declared.entry.Call.TheVariants.{Client as ByClient}
 use Rattle.session_ops.specs.declared.entry.Refusal.TheVariants.{NotJoined}
 use Rattle.session_ops.specs.declared.entry.Reply.TheVariants.{Refused}
 use Rattle.session_ops.specs.declared.entry.Entry.{Entry}
 use Rattle.notebook.specs.declared.parts.Parts.{Parts}
+use Rattle.notebook.specs.declared.parts.Passed.{Passed}
+use Rattle.notebook.specs.Flow.{path}
 use Rattle.notebook.specs.Rules.{IsNotebook}
 use Rattle.session_ops.specs.Numbers.{is_in}
-use Rattle.session_ops.specs.State.{Legal, state, reply}
+use Rattle.session_ops.specs.State.{State, Legal, state, reply, ShowsAlong}
 use Rattle.client_sync.specs.Client.{Client, client_of, held}
 use Rattle.world.specs.World.{World}
 
@@ -46,3 +50,11 @@ AreHeard w = (n : ℕ) (c : Client) (op : Op) → client_of n w.clients ≡ Some
 -- a client of the world whose cursor is the history's length, and which has nothing pending, holds the server's notebook
 abbrev pub DoAgree : World → Type 0
 DoAgree w = (n : ℕ) (c : Client) → client_of n w.clients ≡ Some c → length c.seen ≡ length w.history → c.pending ≡ [] → held w.opening c ≡ (state w.opening w.history).book
+
+-- each cell that is evaluated shows what one thread gives along the path that it then has
+abbrev pub AllShow : State → Type 0
+AllShow s = (cell : ℕ) (present : List Passed) (f : Finished) → path s.book cell ≡ Some present → last_finished s.work cell ≡ Some f → is_evaluated s.book s.work cell ≡ true → ShowsAlong present f.shown
+
+-- so it is after each front of a history
+abbrev pub FrontsShow : Parts → List Entry → Type 0
+FrontsShow n0 h = (k : ℕ) → AllShow (state n0 (take k h))

@@ -6,8 +6,10 @@ use Rattle.client_sync.specs.Client.{Client as Holder, Edited, Done, NoCell, Edi
 use Rattle.client_sync.specs.declared.client.Client.{Client}
 use Rattle.client_sync.specs.Stands.{Mirrors}
 use Rattle.session_core.specs.Session.{IsSession, history_of}
+use Rattle.world.specs.declared.event.Event.{Event}
 use Rattle.world.specs.World.{World as Course}
-use Rattle.world.specs.Claims.{IsWhole, DoAgree, AreHeard}
+use Rattle.world.specs.Claims.{IsWhole, DoAgree, AreHeard, FrontsShow}
+use Rattle.world.specs.Messages.{AreAnsweredFairly}
 use Rattle.world.specs.Waiting.{AreHonest, AreFair}
 use Rattle.world.specs.declared.world.World.{World}
 
@@ -76,13 +78,15 @@ DoHold n0 h [] (m ∷ ms) = ⊥
 DoHold n0 h (c ∷ cs) [] = ⊥
 DoHold n0 h (c ∷ cs) (m ∷ ms) = HoldsFront n0 h c m × DoHold n0 h cs ms
 
--- what a run leaves: the course in memory, a legal history, clients that hold what they have received, that agree with the server once they have received all, and whose messages are never refused as a stranger's or for their delta
-pub record IsRun (book : Parts) (w : Course) (x : World) : Type 0 where
+-- what a run leaves: the course in memory, a legal history, clients that hold what they have received, that agree with the server once they have received all, and whose messages are never refused as a stranger's or for their delta, neither those that were taken nor those that are next; and after each front of the history evaluated cells show what one thread gives
+pub record IsRun (book : Parts) (es : List Event) (w : Course) (x : World) : Type 0 where
   pub opening : w.opening ≡ book
   pub plays : Plays w x
   pub whole : IsWhole w
   pub hold : DoHold w.opening w.history x.clients.items w.clients
   pub agree : DoAgree w
   pub honest : AreHonest w
+  pub messages : AreAnsweredFairly book es
   pub fair : AreFair w
   pub heard : AreHeard w
+  pub shown : FrontsShow w.opening w.history

@@ -30,7 +30,7 @@ pub struct World {
 /// that can't happen changes nothing: a client's where the number holds no client, a raw call where it
 /// holds one, a take from an empty outbox, a receipt past the history's end.
 pub fn run(alloc: Global, book: Notebook, events: Vec<Event>) -> Result<World, AllocError>
-    ensures { IfOk result (IsRun book (run book events.items)) }
+    ensures { IfOk result (IsRun book events.items (run book events.items)) }
 {
     let mut world = World::open(alloc, book)?;
     for event in &events {
