@@ -10,7 +10,7 @@ use Rattle.notebook.specs.declared.parts.Parts.{Parts}
 use Rattle.notebook.specs.declared.parts.Kind.{Kind}
 use Rattle.notebook.specs.declared.parts.Kind.TheVariants as cell
 use Rattle.livemd_lines.specs.declared.fences.Fence.{Fence}
-use Rattle.livemd_lines.specs.Lines.{is_empty}
+use Rattle.blanks.specs.Blanks.{is_empty}
 use Rattle.livemd_lines.specs.Kinds.{kind_in, kinds_in, kinds_of, open_after}
 use Rattle.livemd_lines.specs.Written.{IsLine, ticks}
 use Rattle.livemd_lines.proofs.Feeds.{lines-text_of_lines}

@@ -12,7 +12,8 @@ use Rattle.notebook.specs.declared.parts.Kind.TheVariants as cell
 use Rattle.livemd_lines.specs.declared.fences.Mark.TheVariants.{Backtick}
 use Rattle.livemd_lines.specs.declared.metadata.Metadata.{Metadata}
 use Rattle.livemd_lines.specs.declared.metadata.Metadata.TheVariants as metadata
-use Rattle.livemd_lines.specs.Lines.{is_blank, is_empty, joined}
+use Rattle.blanks.specs.Blanks.{is_blank, is_empty}
+use Rattle.livemd_lines.specs.Lines.{joined}
 use Rattle.livemd_lines.specs.Kinds.{Kind as LineKind, Opens, Meta, Heading1, Heading2, Kinded, kind_of, kinds_in, open_after}
 use Rattle.livemd_lines.specs.Meanings.{metadata_of}
 use Rattle.livemd_lines.specs.Written.{ticks}

@@ -13,7 +13,8 @@ use Rattle.utf16_text.proofs.Scalars.{are_scalars-is}
 use Rattle.livemd_lines.specs.declared.fences.Fence.{Fence}
 use Rattle.livemd_lines.specs.declared.fences.Mark.{Mark}
 use Rattle.livemd_lines.specs.declared.fences.Mark.TheVariants.{Backtick, Tilde}
-use Rattle.livemd_lines.specs.Lines.{drop_end, drop_front, is_blank, is_cr, is_empty, is_lf, is_space, is_space_or_tab, joined}
+use Rattle.blanks.specs.Blanks.{drop_end, drop_front, is_blank, is_cr, is_empty, is_space, is_space_or_tab}
+use Rattle.livemd_lines.specs.Lines.{is_lf, joined}
 use Rattle.livemd_lines.specs.Kinds.{byte_of}
 use Rattle.livemd_lines.specs.Written.{HasNoFeed, open_behind}
 use Rattle.livemd_format.specs.Tidy.{changed, clean, clean_pieces, closed, closing_lines, pieces, spaced, tidy_markdown, tidy_name, unblanked}

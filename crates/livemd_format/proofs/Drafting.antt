@@ -12,7 +12,7 @@ use Rattle.notebook.specs.declared.parts.Kind.TheVariants as cell
 use Rattle.notebook.specs.Book.{cells_of, empty_setup, untitled}
 use Rattle.notebook.specs.Rules.{IsSectionKind}
 use Rattle.livemd_lines.specs.declared.metadata.Metadata.TheVariants as metadata
-use Rattle.livemd_lines.specs.Lines.{is_empty}
+use Rattle.blanks.specs.Blanks.{is_empty}
 use Rattle.livemd_lines.specs.Meanings.{metadata_of}
 use Rattle.livemd_format.specs.Items as item
 use Rattle.livemd_format.specs.Items.{Item}

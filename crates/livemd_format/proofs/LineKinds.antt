@@ -6,7 +6,8 @@ use Rattle.std.specs.List.{list_any}
 use Rattle.serde_json.proofs.OnLiterals.{serde_json_on_literals}
 use Rattle.livemd_lines.specs.declared.metadata.Metadata.{Metadata}
 use Rattle.livemd_lines.specs.declared.metadata.Metadata.TheVariants as metadata
-use Rattle.livemd_lines.specs.Lines.{drop_end, drop_front, is_blank, is_cr, is_empty, is_lf, is_space, is_space_or_tab}
+use Rattle.blanks.specs.Blanks.{drop_end, drop_front, is_blank, is_cr, is_empty, is_space, is_space_or_tab}
+use Rattle.livemd_lines.specs.Lines.{is_lf}
 use Rattle.livemd_lines.specs.Kinds.{Meta, Heading1, Heading2, Plain, kind_of}
 use Rattle.livemd_lines.specs.Meanings.{before, begins, meaning_in, metadata_of}
 use Rattle.livemd_lines.specs.Written.{IsLine}

@@ -6,7 +6,8 @@ use Rattle.std.proofs.lemmas.List.{append-nil}
 use Rattle.livemd_lines.specs.declared.fences.Fence.{Fence}
 use Rattle.livemd_lines.specs.declared.fences.Mark.TheVariants.{Backtick}
 use Rattle.livemd_lines.specs.declared.metadata.Metadata.TheVariants as metadata
-use Rattle.livemd_lines.specs.Lines.{drop_end, is_blank, joined}
+use Rattle.blanks.specs.Blanks.{drop_end, is_blank}
+use Rattle.livemd_lines.specs.Lines.{joined}
 use Rattle.livemd_lines.specs.Kinds.{Kind, Opens, Inside, Closes, Meta, Heading1, Heading2, Plain, Kinded, is_closing, kind_in, kind_of, kinded, kinds_in, open_after}
 use Rattle.livemd_lines.specs.Written.{IsInfo, open_behind, ticks}
 use Rattle.livemd_lines.proofs.Stretches.{inside, kinds_in-fenced}
@@ -14,7 +15,8 @@ use Rattle.livemd_format.specs.Items.{Cut, Item, Markdown, Saved, after_code, at
 use Rattle.livemd_format.specs.Tidy.{pieces}
 use Rattle.livemd_format.specs.Write.{Block, fence_block, fence_len, force_line, forced_lines, line_block, needs_force, output_line}
 use Rattle.livemd_format.proofs.LineKinds.{blank_plain, force_is, metadata_kind, output_is}
-use Rattle.livemd_format.proofs.Trimming.{drop_end-gone, joined-pieces, short_pieces}
+use Rattle.blanks.proofs.Trims.{drop_end-gone}
+use Rattle.livemd_format.proofs.Trimming.{joined-pieces, short_pieces}
 
 -- the lines of blocks, each block behind an empty line, with their kinds
 abbrev pub more_blocks : List Block → List (List ℕ)

@@ -10,7 +10,8 @@ use Rattle.notebook.specs.declared.parts.Kind.TheVariants as cell
 use Rattle.notebook.specs.Book.{section_cells}
 use Rattle.notebook.specs.Rules.{IsSectionKind}
 use Rattle.livemd_lines.specs.declared.metadata.Metadata.TheVariants.{Stamp, Unknown}
-use Rattle.livemd_lines.specs.Lines.{drop_end, drop_front, is_blank, is_space, is_space_or_tab, joined, lines}
+use Rattle.blanks.specs.Blanks.{drop_end, drop_front, is_blank, is_space, is_space_or_tab}
+use Rattle.livemd_lines.specs.Lines.{joined, lines}
 use Rattle.livemd_lines.specs.Meanings.{metadata_of}
 use Rattle.livemd_lines.specs.Written.{IsInfo, IsLine, open_behind}
 use Rattle.livemd_format.specs.Draft.{stem_at}

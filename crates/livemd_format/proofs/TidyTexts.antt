@@ -11,7 +11,8 @@ use Rattle.notebook.specs.declared.parts.Saved.{Saved}
 use Rattle.livemd_lines.specs.declared.fences.Fence.{Fence}
 use Rattle.livemd_lines.specs.declared.fences.Mark.{Mark}
 use Rattle.livemd_lines.specs.declared.fences.Mark.TheVariants.{Backtick, Tilde}
-use Rattle.livemd_lines.specs.Lines.{drop_end, drop_front, is_blank, is_cr, is_empty, is_lf, is_space, is_space_or_tab, joined, lines}
+use Rattle.blanks.specs.Blanks.{drop_end, drop_front, is_blank, is_cr, is_empty, is_space, is_space_or_tab}
+use Rattle.livemd_lines.specs.Lines.{is_lf, joined, lines}
 use Rattle.livemd_lines.specs.Kinds.{Inside, Closes, Heading1, Heading2, Plain, after_run, byte_of, is_byte, is_closing, kind_in, kind_of, open_after, opens_ticks, opens_tildes, opens_with, run, unfenced_kind}
 use Rattle.livemd_lines.specs.declared.metadata.Metadata.{Metadata}
 use Rattle.livemd_lines.specs.Meanings.{begins, metadata_of}
@@ -21,7 +22,8 @@ use Rattle.livemd_format.specs.RoundTrip.{AreKeptLines, AreOutputTexts, EndsWith
 use Rattle.livemd_format.specs.Tidy.{changed, clean, clean_pieces, closed, closing_lines, pieces, spaced, tidy_before, tidy_lines, tidy_markdown, tidy_name, tidy_saved, unblanked}
 use Rattle.livemd_format.proofs.Characters.{IsAsciiTest, changed_bytes, changed_text, clean_utf8, cr_ascii, end_encoded, feed_encoded, feed_of_none, front_encoded, markdown_utf8, name_utf8, none_encoded, same_text, space_or_tab_ascii, utf8_of}
 use Rattle.livemd_format.proofs.Tidiness.{AreTidyKept, IsTidyFenced, IsTidyKept, IsTidyMarkdown, IsTidyName, IsTidySaved}
-use Rattle.livemd_format.proofs.Trimming.{all_end, all_front, all_more, drop_end-kept, drop_end-twice, end_none, end_stricter, lines-joined, lines_of_clean, one_piece, pieces_of_clean}
+use Rattle.blanks.proofs.Trims.{drop_end-kept}
+use Rattle.livemd_format.proofs.Trimming.{all_end, all_front, all_more, drop_end-twice, end_none, end_stricter, lines-joined, lines_of_clean, one_piece, pieces_of_clean}
 
 -- ---- names
 

@@ -3,30 +3,14 @@ use Rattle.std.proofs.Common.{◌≡◌, ℕ, ◌≤◌, suc, zero, Bool, true, 
 use Rattle.std.specs.Prelude.{◌==◌}
 use Rattle.std.specs.List.{AllByRecursion, list_any, onto_first, slice_split}
 use Rattle.std.proofs.lemmas.List.Splits.{join_with_byte-slice_split}
-use Rattle.livemd_lines.specs.Lines.{drop_end, drop_front, is_blank, is_cr, is_empty, is_lf, joined, lines, without_empty_last}
+use Rattle.blanks.specs.Blanks.{drop_end, drop_front, is_blank, is_cr, is_empty}
+use Rattle.livemd_lines.specs.Lines.{is_lf, joined, lines, without_empty_last}
 use Rattle.livemd_lines.specs.Kinds.{run}
 use Rattle.livemd_lines.specs.Written.{HasNoFeed, HasShortRuns, IsLine, longest_run}
 use Rattle.livemd_format.specs.Tidy.{clean_pieces, pieces}
 use Rattle.livemd_format.specs.Write.{fence_len}
 
 -- ---- what passes at an end
-
-not_empty : {X : Type 0} (xs : List X) (c : X) → is_empty (xs ++ c ∷ []) ≡ false
-not_empty [] c = refl
-not_empty (x ∷ xs) c = refl
-
-all_stay : {X : Type 0} (a : Bool) (x : X) (xs : List X) (c : X) → cond (a && is_empty (xs ++ c ∷ [])) [] (x ∷ (xs ++ c ∷ [])) ≡ x ∷ (xs ++ c ∷ [])
-all_stay true x xs c = rw (not_empty xs c) refl
-all_stay false x xs c = refl
-
--- an element at the end that passes goes, and before one that doesn't all stays
-pub drop_end-gone : {X : Type 0} (p : X → Bool) (xs : List X) (c : X) → p c ≡ true → drop_end p (xs ++ c ∷ []) ≡ drop_end p xs
-drop_end-gone p [] c h = rw h refl
-drop_end-gone p (x ∷ xs) c h = ap (λ w. cond (p x && is_empty w) [] (x ∷ w)) (drop_end-gone p xs c h)
-
-pub drop_end-kept : {X : Type 0} (p : X → Bool) (xs : List X) (c : X) → p c ≡ false → drop_end p (xs ++ c ∷ []) ≡ xs ++ c ∷ []
-drop_end-kept p [] c h = rw h refl
-drop_end-kept p (x ∷ xs) c h = ap (λ w. cond (p x && is_empty w) [] (x ∷ w)) (drop_end-kept p xs c h) ∙ all_stay (p x) x xs c
 
 twice_step : {X : Type 0} (p : X → Bool) (x : X) (xs : List X) (t : Bool) → (p x && is_empty xs) ≡ t → drop_end p xs ≡ xs → drop_end p (cond t [] (x ∷ xs)) ≡ cond t [] (x ∷ xs)
 twice_step p x xs true e h = refl

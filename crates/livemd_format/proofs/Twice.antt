@@ -11,7 +11,8 @@ use Rattle.notebook.specs.declared.parts.Section.{Section}
 use Rattle.notebook.specs.declared.parts.Parts.{Parts}
 use Rattle.notebook.specs.declared.parts.Kind.{Kind}
 use Rattle.notebook.specs.declared.parts.Kind.TheVariants as cell
-use Rattle.livemd_lines.specs.Lines.{drop_end, drop_front, is_blank, is_cr, is_lf, is_space, joined}
+use Rattle.blanks.specs.Blanks.{drop_end, drop_front, is_blank, is_cr, is_space}
+use Rattle.livemd_lines.specs.Lines.{is_lf, joined}
 use Rattle.livemd_format.specs.RoundTrip.{AreCellTexts, AreOutputTexts, AreSectionTexts, AreTexts}
 use Rattle.livemd_format.specs.Tidy.{changed, clean, clean_pieces, closed, closing_lines, number_from, numbered, spaced, stays, tidied, tidy_before, tidy_cell, tidy_cells, tidy_lines, tidy_markdown, tidy_name, tidy_outputs, tidy_saved, tidy_section, tidy_sections, tidy_source, unblanked, with_tidy}
 use Rattle.livemd_format.proofs.Characters.{changed_bytes, clean_utf8, feed_of_none, markdown_utf8, name_utf8, utf8_of}

@@ -10,7 +10,7 @@ use Rattle.notebook.specs.declared.parts.Kind.{Kind}
 use Rattle.notebook.specs.declared.parts.Kind.TheVariants as cell
 use Rattle.notebook.specs.Book.{untitled}
 use Rattle.notebook.specs.Flow.{is_main}
-use Rattle.livemd_lines.specs.Lines.{is_empty}
+use Rattle.blanks.specs.Blanks.{is_empty}
 use Rattle.livemd_format.specs.declared.notices.Notice.{Notice}
 use Rattle.livemd_format.specs.declared.notices.NoticeKind.{NoticeKind}
 use Rattle.livemd_format.specs.declared.notices.NoticeKind.TheVariants.{BadBranch, Misplaced}

@@ -5,7 +5,8 @@ use Rattle.livemd_lines.specs.declared.fences.Fence.{Fence}
 use Rattle.livemd_lines.specs.declared.fences.Mark.TheVariants.{Backtick}
 use Rattle.livemd_lines.specs.declared.metadata.Metadata.{Metadata}
 use Rattle.livemd_lines.specs.declared.metadata.Metadata.TheVariants as metadata
-use Rattle.livemd_lines.specs.Lines.{drop_end, is_blank, is_space_or_tab, joined}
+use Rattle.blanks.specs.Blanks.{drop_end, is_blank, is_space_or_tab}
+use Rattle.livemd_lines.specs.Lines.{joined}
 use Rattle.livemd_lines.specs.Kinds.{Kind, Opens, Inside, Closes, Meta, Heading1, Heading2, Plain, Kinded, byte_of}
 
 -- the name; a section with its name; the setup cell, a code cell and a Markdown cell with their sources; a saved output

@@ -7,7 +7,8 @@ use Rattle.notebook.specs.declared.parts.Saved.{Saved}
 use Rattle.notebook.specs.declared.parts.Section.{Section}
 use Rattle.notebook.specs.declared.parts.Parts.{Parts}
 use Rattle.livemd_lines.specs.declared.metadata.Metadata.TheVariants.{Stamp, Unknown}
-use Rattle.livemd_lines.specs.Lines.{drop_end, is_cr, is_lf, is_space_or_tab}
+use Rattle.blanks.specs.Blanks.{drop_end, is_cr, is_space_or_tab}
+use Rattle.livemd_lines.specs.Lines.{is_lf}
 use Rattle.livemd_lines.specs.Meanings.{metadata_of}
 use Rattle.livemd_lines.specs.Written.{HasNoFeed, IsInfo}
 use Rattle.livemd_format.specs.Reads.{Reads}

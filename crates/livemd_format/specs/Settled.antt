@@ -1,6 +1,6 @@
 -- What branch lines and stamps are, by the items after them.
 use Rattle.std.specs.Prelude.{ℕ, Bool, true, false, if◌then◌else◌, List, [], ◌∷◌}
-use Rattle.livemd_lines.specs.Lines.{is_empty}
+use Rattle.blanks.specs.Blanks.{is_empty}
 use Rattle.livemd_format.specs.Items.{Item, Section, Kept, Stamp, Branch, Dropped, Misplaced}
 
 -- what may stand between a branch line and its section: unknown metadata, other branch lines, and lines that are as if they

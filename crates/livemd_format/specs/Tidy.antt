@@ -9,7 +9,8 @@ use Rattle.notebook.specs.declared.parts.Kind.{Kind}
 use Rattle.notebook.specs.declared.parts.Kind.TheVariants as cell
 use Rattle.notebook.specs.Book.{section_cells}
 use Rattle.livemd_lines.specs.declared.fences.Fence.{Fence}
-use Rattle.livemd_lines.specs.Lines.{is_empty, drop_end, drop_front, is_blank, is_cr, is_lf, is_space, joined}
+use Rattle.blanks.specs.Blanks.{is_empty, drop_end, drop_front, is_blank, is_cr, is_space}
+use Rattle.livemd_lines.specs.Lines.{is_lf, joined}
 use Rattle.livemd_lines.specs.Kinds.{byte_of}
 use Rattle.livemd_lines.specs.Written.{open_behind}
 

@@ -5,7 +5,8 @@ use Rattle.notebook.specs.declared.parts.Cell.{Cell}
 use Rattle.notebook.specs.declared.parts.Saved.{Saved}
 use Rattle.notebook.specs.declared.parts.Section.{Section}
 use Rattle.notebook.specs.declared.parts.Parts.{Parts}
-use Rattle.livemd_lines.specs.Lines.{is_empty, lines}
+use Rattle.blanks.specs.Blanks.{is_empty}
+use Rattle.livemd_lines.specs.Lines.{lines}
 use Rattle.livemd_lines.specs.Kinds.{Kind, Opens, Meta, Heading2, Kinded, kinds_of}
 use Rattle.livemd_lines.specs.Written.{fenced, longest_run, text_of_lines}
 use Rattle.livemd_format.specs.Items.{is_code}

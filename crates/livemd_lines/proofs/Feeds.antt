@@ -1,7 +1,8 @@
 -- Lines put together and cut again.
 use Rattle.std.proofs.Common.{◌≡◌, ℕ, List, [], ◌∷◌, ◌++◌, map, refl, ap, ◌∙◌}
 use Rattle.std.specs.List.{slice_split, AllByRecursion}
-use Rattle.livemd_lines.specs.Lines.{drop_end, is_cr, is_lf, lines, without_empty_last}
+use Rattle.blanks.specs.Blanks.{drop_end, is_cr}
+use Rattle.livemd_lines.specs.Lines.{is_lf, lines, without_empty_last}
 use Rattle.livemd_lines.specs.Written.{HasNoFeed, IsLine, text_of_lines}
 
 pieces-line : (l rest : List ℕ) → HasNoFeed l → slice_split is_lf (l ++ 10 ∷ rest) ≡ l ∷ slice_split is_lf rest

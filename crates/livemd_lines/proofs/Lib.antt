@@ -1,7 +1,5 @@
 pub mod Feeds
-mod Fronts
 mod Marks
 pub mod Stretches
-mod Trims
 pub mod Walks
 mod Worked

@@ -6,7 +6,7 @@ use Rattle.std.proofs.lemmas.Bool.Decides.{nat_tests}
 use Rattle.std.proofs.lemmas.List.{length-replicate}
 use Rattle.livemd_lines.specs.declared.fences.Fence.{Fence}
 use Rattle.livemd_lines.specs.declared.fences.Mark.TheVariants.{Backtick}
-use Rattle.livemd_lines.specs.Lines.{is_empty, drop_end, drop_front, front_of, is_space_or_tab}
+use Rattle.blanks.specs.Blanks.{is_empty, drop_end, drop_front, front_of, is_space_or_tab}
 use Rattle.livemd_lines.specs.Kinds.{Opens, Inside, Closes, Kinded, after_run, is_byte, is_closing, kind_in, kind_of, kinded, kinds_in, open_after, run}
 use Rattle.livemd_lines.specs.Written.{HasShortRuns, IsInfo, fenced, longest_run, open_behind, ticks}
 

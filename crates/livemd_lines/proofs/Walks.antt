@@ -7,9 +7,10 @@ use Rattle.std.specs.Str.Lines as str
 use Rattle.std.proofs.lemmas.Bool.Decides.{nat_tests}
 use Rattle.std.proofs.lemmas.List.{append-nil, take_more, take_all}
 use Rattle.livemd_lines.specs.declared.fences.Fence.{Fence}
-use Rattle.livemd_lines.specs.Lines.{drop_end, is_cr, is_lf, without_empty_last, lines}
+use Rattle.blanks.specs.Blanks.{drop_end, is_cr}
+use Rattle.livemd_lines.specs.Lines.{is_lf, without_empty_last, lines}
 use Rattle.livemd_lines.specs.Kinds.{Kinded, kind_in, kinded, kinds_in, kinds_of, open_after}
-use Rattle.livemd_lines.proofs.Trims.{drop_end-gone}
+use Rattle.blanks.proofs.Trims.{drop_end-gone}
 
 is_cr_byte : (c : ℕ) → (c == 13) ≡ true → c ≡ 13
 is_cr_byte c h = grind (arith, nat_tests)

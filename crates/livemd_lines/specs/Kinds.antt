@@ -5,7 +5,7 @@ use Rattle.livemd_lines.specs.declared.fences.Fence.{Fence}
 use Rattle.livemd_lines.specs.declared.fences.Mark.{Mark}
 use Rattle.livemd_lines.specs.declared.fences.Mark.TheVariants.{Backtick, Tilde}
 use Rattle.livemd_lines.specs.declared.metadata.Metadata.{Metadata}
-use Rattle.livemd_lines.specs.Lines.{drop_end, drop_front, front_of, is_space, is_space_or_tab}
+use Rattle.blanks.specs.Blanks.{drop_end, drop_front, front_of, is_space, is_space_or_tab}
 use Rattle.livemd_lines.specs.Meanings.{begins, metadata_of}
 
 -- what a line is: it opens a fence with an info, stands inside one, closes one, or stands outside

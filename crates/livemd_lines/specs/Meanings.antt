@@ -6,7 +6,7 @@ use Rattle.serde_json.specs.Find.{get_member, as_bool, as_number, as_object, as_
 use Rattle.serde_json.specs.Read.{read}
 use Rattle.livemd_lines.specs.declared.metadata.Metadata.{Metadata}
 use Rattle.livemd_lines.specs.declared.metadata.Metadata.TheVariants.{BranchParentIndex, BreakMarkdown, ForceMarkdown, Output, Stamp, Unknown}
-use Rattle.livemd_lines.specs.Lines.{drop_end, is_space_or_tab}
+use Rattle.blanks.specs.Blanks.{drop_end, is_space_or_tab}
 
 -- whether a text begins, or ends, so
 abbrev pub begins : List ℕ → List ℕ → Bool

@@ -3,7 +3,8 @@ use Rattle.std.specs.Prelude.{◌≡◌, ℕ, ◌<◌, zero, max, false, Option,
 use Rattle.std.specs.List.{AllByRecursion, list_any}
 use Rattle.livemd_lines.specs.declared.fences.Fence.{Fence}
 use Rattle.livemd_lines.specs.declared.fences.Mark.TheVariants.{Backtick}
-use Rattle.livemd_lines.specs.Lines.{drop_end, is_cr, is_lf}
+use Rattle.blanks.specs.Blanks.{drop_end, is_cr}
+use Rattle.livemd_lines.specs.Lines.{is_lf}
 use Rattle.livemd_lines.specs.Kinds.{byte_of, is_byte, kind_in, open_after, run, trimmed}
 
 -- a text may be a line where it has no line feed and no carriage return at its end

@@ -3,7 +3,7 @@ ghost use Rattle.std.specs.Prelude.{◌≡◌, ◌+◌, length, MatchOption};
 ghost use Rattle.std.specs.List.{list_all};
 ghost use Rattle.livemd_lines.specs.Kinds.{Opens, byte_of, run, after_run, trimmed, opens_ticks, opens_tildes, opens_with, kind_of, unfenced_kind, is_byte, is_closing};
 
-use crate::blanks::{without_end_blanks, without_front_blanks};
+use blanks::{without_end_blanks, without_front_blanks};
 
 /// The character of a fence.
 #[derive(Clone, Copy, Debug, PartialEq)]

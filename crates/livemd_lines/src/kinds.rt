@@ -1,11 +1,11 @@
 //! The lines of a text, each with what it is.
 ghost use Rattle.std.specs.Prelude.{◌≡◌, IfOk};
-ghost use Rattle.livemd_lines.specs.Lines.{drop_end, is_blank, is_cr, lines};
+ghost use Rattle.blanks.specs.Blanks.{drop_end, is_blank, is_cr};
+ghost use Rattle.livemd_lines.specs.Lines.{lines};
 ghost use Rattle.livemd_lines.specs.Kinds.{heading_kind, kind_of, kind_in, open_after, kinded, kinds_of};
 ghost use Rattle.livemd_lines.specs.Views.{kind_view, line_view, lines_view};
 
-use crate::blanks;
-use crate::blanks::{trim_spaces, without_crs};
+use blanks::{trim_spaces, without_crs};
 use crate::fences::{Fence, opening_of};
 use crate::metadata::{Metadata, metadata_of};
 use std::alloc::{AllocError, Global};

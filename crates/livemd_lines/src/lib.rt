@@ -8,7 +8,6 @@
 //! a stamp is left to that layer.
 #![tactic(auto)]
 
-mod blanks;
 mod fences;
 mod kinds;
 mod metadata;

@@ -4,7 +4,7 @@ ghost use Rattle.serde_json.specs.Find.{get_member};
 ghost use Rattle.serde_json.specs.View.{view, members_view};
 ghost use Rattle.livemd_lines.specs.Meanings.{behind, before, between, member_count, only, parent_index, is_set, other_meaning, set_meaning, meaning, meaning_in, metadata_of};
 
-use crate::blanks::without_end_blanks;
+use blanks::without_end_blanks;
 use serde_json::{Map, Value};
 use std::alloc::{AllocError, Global};
 

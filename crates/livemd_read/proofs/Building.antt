@@ -8,7 +8,7 @@ use Rattle.notebook.specs.declared.parts.Saved.{Saved}
 use Rattle.notebook.specs.declared.parts.Section.{Section}
 use Rattle.notebook.specs.declared.parts.Parts.{Parts}
 use Rattle.notebook.specs.declared.parts.Kind.{Kind}
-use Rattle.livemd_lines.specs.Lines.{is_empty}
+use Rattle.blanks.specs.Blanks.{is_empty}
 use Rattle.livemd_format.specs.Draft.{add_cell, add_last_output, add_output, on_last, with_cell, with_output, with_section, with_some_section}
 
 -- the last element written

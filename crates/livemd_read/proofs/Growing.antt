@@ -13,7 +13,7 @@ use Rattle.notebook.specs.declared.parts.Kind.{Kind}
 use Rattle.notebook.specs.declared.parts.Kind.TheVariants as cell
 use Rattle.notebook.specs.Book.{cells_of, section_cells}
 use Rattle.notebook.specs.Rules.{code_count, code_weight}
-use Rattle.livemd_lines.specs.Lines.{is_empty}
+use Rattle.blanks.specs.Blanks.{is_empty}
 use Rattle.livemd_format.specs.Items as item
 use Rattle.livemd_format.specs.Draft.{Draft, add_cell, add_last_output, add_output, on_last, stem_at, take_branch, with_cell, with_item, with_output, with_section, with_some_section}
 

@@ -6,4 +6,3 @@ mod Growing
 mod Numbering
 mod Settling
 mod Steps
-mod Trims

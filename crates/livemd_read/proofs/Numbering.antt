@@ -12,7 +12,7 @@ use Rattle.notebook.specs.declared.parts.Kind.{Kind}
 use Rattle.notebook.specs.declared.parts.Kind.TheVariants as cell
 use Rattle.notebook.specs.Book.{section_cells}
 use Rattle.notebook.specs.Rules.{IsNotebook, cell_number, section_number, AreDistinct, IsSectionKind, IsSectionCell, IsBelow, IsParentAmong, ParentsStand, numbered_cells}
-use Rattle.livemd_lines.specs.Lines.{is_empty}
+use Rattle.blanks.specs.Blanks.{is_empty}
 use Rattle.livemd_format.specs.Accepts.{HasFewSections, HasFewCells}
 use Rattle.livemd_format.specs.Items as item
 use Rattle.livemd_format.specs.Draft.{Draft, add_cell, add_last_output, finished, new_draft, on_last, stem_at, stem_number, take_branch, take_cell, with_cell, with_item, with_output, with_section, with_some_section}

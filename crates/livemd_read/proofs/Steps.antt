@@ -9,7 +9,8 @@ use Rattle.std.proofs.lemmas.List.{append-nil}
 use Rattle.livemd_lines.specs.declared.fences.Fence.{Fence}
 use Rattle.livemd_lines.specs.declared.kinds.LineKind.{LineKind}
 use Rattle.livemd_lines.specs.declared.kinds.LineKind.TheVariants as line
-use Rattle.livemd_lines.specs.Lines.{is_empty, drop_end, is_blank, joined}
+use Rattle.blanks.specs.Blanks.{is_empty, drop_end, is_blank}
+use Rattle.livemd_lines.specs.Lines.{joined}
 use Rattle.livemd_lines.specs.Kinds.{Kind, Opens, Inside, Closes, Meta, Heading1, Heading2, Plain, Kinded}
 use Rattle.livemd_lines.specs.Views.{kind_view}
 use Rattle.livemd_format.specs.Items.{Cut, Item, Markdown, Misplaced, Name, Saved, after_code, at_name, code_at, content, content_lines, cut, cut_by, is_closing_kind, is_code, is_force, is_inside, items, markdown_at, markdown_of, may_stand, one_line, one_more, output_at, saved_at, saved_by, stretch, stretch_lines}

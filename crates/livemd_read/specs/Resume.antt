@@ -3,7 +3,8 @@ use Rattle.std.specs.Prelude.{◌≡◌, ℕ, suc, if◌then◌else◌, Bool, tr
 use Rattle.std.specs.List.{flat_map}
 use Rattle.std.specs.Option.{option_map}
 use Rattle.std.specs.String.{string_bytes}
-use Rattle.livemd_lines.specs.Lines.{is_empty, drop_end, is_blank, joined}
+use Rattle.blanks.specs.Blanks.{is_empty, drop_end, is_blank}
+use Rattle.livemd_lines.specs.Lines.{joined}
 use Rattle.livemd_lines.specs.Kinds.{Kinded}
 use Rattle.livemd_format.specs.Items as item
 use Rattle.livemd_format.specs.Items.{Cut, Item, code_item, content, content_lines, items, markdown_at, markdown_of, saved_at, stretch, stretch_lines}

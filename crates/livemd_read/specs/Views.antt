@@ -1,7 +1,7 @@
 -- What the code's items stand for, and what it keeps beside them.
 use Rattle.std.specs.Prelude.{◌≡◌, ℕ, List, map}
 use Rattle.std.specs.String.{string_bytes}
-use Rattle.livemd_lines.specs.Lines.{is_empty}
+use Rattle.blanks.specs.Blanks.{is_empty}
 use Rattle.livemd_format.specs.Items as item
 use Rattle.livemd_format.specs.Settled.{branch_next, section_next}
 use Rattle.livemd_format.specs.Draft as format

@@ -1,7 +1,7 @@
 //! One line after the other is taken.
 ghost use Rattle.std.specs.Prelude.{◌≡◌, ◌++◌, ◌∷◌, [], ℕ, true, false, IfOk, OnOk, List, option_map, unwrap_or};
 ghost use Rattle.std.specs.String.{string_bytes};
-ghost use Rattle.livemd_lines.specs.Lines.{drop_end, is_blank, is_space_or_tab};
+ghost use Rattle.blanks.specs.Blanks.{drop_end, is_blank, is_space_or_tab};
 ghost use Rattle.livemd_lines.specs.Kinds.{Opens, Heading1};
 ghost use Rattle.livemd_lines.specs.Views.{kind_view, line_view};
 ghost use Rattle.livemd_format.specs.Items.{at_setup, cut, cut_by, cut_metadata, is_closing_kind, is_code, is_force, is_inside, may_stand, one_line, output_at};
@@ -13,27 +13,9 @@ ghost use Rattle.livemd_read.specs.Views.{IsDone, cut_of, item_of, views};
 use crate::done::Done;
 use crate::items::Item;
 use crate::open::{Content, Open, Passage, with_line};
+use blanks::without_end_blanks;
 use livemd_lines::{Fence, Line, LineKind, Mark, Metadata};
 use std::alloc::{AllocError, Global};
-
-/// Whether a byte is a space or a tab.
-fn is_space_or_tab(byte: u8) -> bool
-    ensures { result ≡ is_space_or_tab byte }
-{
-    byte == b' ' || byte == b'\t'
-}
-
-/// The text without spaces and tabs at its end.
-fn without_end_blanks(text: &str) -> &str
-    ensures { result.now ≡ drop_end is_space_or_tab text.now }
-{
-    let bytes = text.as_bytes();
-    let mut end = bytes.len();
-    while end > 0 && is_space_or_tab(bytes[end - 1]) {
-        end -= 1;
-    }
-    &text[..end]
-}
 
 /// Whether what stands in the fence is code.
 fn is_code(fence: Fence, info: &str) -> bool

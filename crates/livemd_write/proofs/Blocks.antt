@@ -8,7 +8,8 @@ use Rattle.std.proofs.lemmas.List.{append-nil}
 use Rattle.notebook.specs.declared.parts.Cell.{Cell}
 use Rattle.notebook.specs.declared.parts.Parts.{Parts}
 use Rattle.livemd_lines.specs.declared.fences.Mark.TheVariants.{Backtick}
-use Rattle.livemd_lines.specs.Lines.{front_of, is_empty, is_lf, lines}
+use Rattle.blanks.specs.Blanks.{front_of, is_empty}
+use Rattle.livemd_lines.specs.Lines.{is_lf, lines}
 use Rattle.livemd_lines.specs.Kinds.{Kinded, byte_of, is_byte, kinds_of, run}
 use Rattle.livemd_lines.specs.Written.{fenced, longest_run, text_of_lines, ticks}
 use Rattle.livemd_format.specs.Tidy.{is_markdown, pieces}

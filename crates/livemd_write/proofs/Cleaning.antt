@@ -2,7 +2,8 @@
 use Rattle.std.proofs.Common.{◌≡◌, ℕ, true, false, ◌||◌, cond, List, [], ◌∷◌, map, refl, sym, ap, ◌∙◌}
 use Rattle.std.specs.Prelude.{IfOk, Result, Ok, Err, chars, encode_utf8_all}
 use Rattle.std.specs.List.{list_any, onto_first}
-use Rattle.livemd_lines.specs.Lines.{drop_end, is_cr, is_lf, joined}
+use Rattle.blanks.specs.Blanks.{drop_end, is_cr}
+use Rattle.livemd_lines.specs.Lines.{is_lf, joined}
 use Rattle.livemd_format.specs.Tidy.{changed, clean, clean_pieces, pieces}
 use Rattle.livemd_format.proofs.Trimming.{joined-pieces}
 

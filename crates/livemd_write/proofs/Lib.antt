@@ -6,4 +6,3 @@ mod Pieces
 mod Streaming
 mod Telling
 mod Tidying
-mod Trims

@@ -6,11 +6,11 @@ use Rattle.std.specs.String.{string_bytes}
 use Rattle.std.proofs.lemmas.List.{append-nil, map-append}
 use Rattle.livemd_lines.specs.declared.fences.Fence.{Fence}
 use Rattle.livemd_lines.specs.Kinds.{Kinded, kind_in, kinded, open_after}
-use Rattle.livemd_lines.specs.Lines.{drop_end, drop_front, is_blank, is_cr, is_empty}
+use Rattle.blanks.specs.Blanks.{drop_end, drop_front, is_blank, is_cr, is_empty}
 use Rattle.livemd_lines.specs.Written.{open_behind}
 use Rattle.livemd_lines.proofs.Stretches.{open_behind-append}
 use Rattle.livemd_format.specs.Tidy.{clean_pieces, tidy_markdown}
-use Rattle.livemd_format.proofs.Trimming.{drop_end-gone, drop_end-kept}
+use Rattle.blanks.proofs.Trims.{drop_end-gone, drop_end-kept}
 use Rattle.livemd_write.specs.declared.markdown.Passage.{Passage}
 use Rattle.livemd_write.specs.Passages.{IsPassage}
 use Rattle.livemd_write.specs.Texts.{closing_text, joined_by, texts}

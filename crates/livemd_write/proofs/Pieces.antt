@@ -5,7 +5,8 @@ use Rattle.std.specs.Borrow.{Bor}
 use Rattle.std.specs.List.{flat_map, join_with_byte, onto_first, slice_split}
 use Rattle.std.proofs.lemmas.List.{append-nil, map-append}
 use Rattle.livemd_lines.specs.declared.fences.Fence.{Fence}
-use Rattle.livemd_lines.specs.Lines.{drop_end, drop_front, is_space, joined}
+use Rattle.blanks.specs.Blanks.{drop_end, drop_front, is_space}
+use Rattle.livemd_lines.specs.Lines.{joined}
 use Rattle.livemd_lines.specs.Written.{open_behind}
 use Rattle.livemd_format.specs.Tidy.{changed, clean, clean_pieces, closed, closing_lines, spaced, tidy_markdown, tidy_name, unblanked}
 use Rattle.livemd_write.specs.Texts.{closing_text, joined_by, space_for, texts}

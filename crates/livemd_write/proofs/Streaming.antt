@@ -5,7 +5,7 @@ use Rattle.std.specs.List.{flat_map}
 use Rattle.std.proofs.lemmas.Bool.Decides.{nat_tests}
 use Rattle.notebook.specs.declared.parts.Cell.{Cell}
 use Rattle.notebook.specs.declared.parts.Section.{Section}
-use Rattle.livemd_lines.specs.Lines.{is_empty}
+use Rattle.blanks.specs.Blanks.{is_empty}
 use Rattle.livemd_format.specs.Tidy.{is_markdown, number_from, numbered, stays, tidy_before, tidy_cell, tidy_cells, tidy_section, tidy_sections}
 use Rattle.livemd_format.specs.Write.{Block, branch_blocks, branch_line, break_blocks, break_line, cell_blocks, kept_blocks, line_block, own_blocks, section_blocks}
 use Rattle.livemd_write.specs.Pages.{Puts, PutsCellText, blocks_text, tidy_section_blocks}

@@ -3,7 +3,7 @@ use Rattle.std.specs.Prelude.{◌≡◌, ℕ, true, not, List, [], ◌∷◌, �
 use Rattle.std.specs.List.{flat_map}
 use Rattle.std.specs.String.{string_bytes}
 use Rattle.livemd_lines.specs.Kinds.{Kinded, kinded}
-use Rattle.livemd_lines.specs.Lines.{drop_end, drop_front, is_blank, is_empty}
+use Rattle.blanks.specs.Blanks.{drop_end, drop_front, is_blank, is_empty}
 use Rattle.livemd_lines.specs.Written.{open_behind}
 use Rattle.livemd_write.specs.declared.markdown.Passage.{Passage}
 use Rattle.livemd_write.specs.Texts.{joined_by}

@@ -1,7 +1,7 @@
 //! The tidy form of Markdown text.
 ghost use Rattle.std.specs.Prelude.{◌≡◌, ◌++◌, ◌∷◌, [], List, ℕ, true, false, if◌then◌else◌, IfOk, OnOk};
 ghost use Rattle.std.specs.String.{string_bytes};
-ghost use Rattle.livemd_lines.specs.Lines.{drop_end, is_blank, is_cr};
+ghost use Rattle.blanks.specs.Blanks.{drop_end, is_blank, is_cr};
 ghost use Rattle.livemd_lines.specs.Views.{line_view};
 ghost use Rattle.livemd_format.specs.Tidy.{clean_pieces, tidy_markdown};
 ghost use Rattle.livemd_write.specs.Passages.{IsPassage, LineTaken};

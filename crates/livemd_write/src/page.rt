@@ -2,7 +2,8 @@
 ghost use Rattle.std.specs.Prelude.{◌≡◌, ◌&&◌, ◌<◌, ◌≤◌, ◌++◌, ◌∷◌, [], false, encode_utf8_all, map, IfOk, OnOk, string_bytes};
 ghost use Rattle.std.specs.List.{AllByRecursion, flat_map};
 ghost use Rattle.utf16_text.specs.Units.{AreScalars};
-ghost use Rattle.livemd_lines.specs.Lines.{is_empty, lines};
+ghost use Rattle.blanks.specs.Blanks.{is_empty};
+ghost use Rattle.livemd_lines.specs.Lines.{lines};
 ghost use Rattle.livemd_lines.specs.Kinds.{kinds_of};
 ghost use Rattle.livemd_lines.specs.Views.{kind_view, line_view};
 ghost use Rattle.livemd_lines.specs.Written.{text_of_lines};

@@ -3,28 +3,15 @@ ghost use Rattle.std.specs.Prelude.{◌≡◌, ◌++◌, ◌∷◌, [], ◌<◌,
 ghost use Rattle.std.specs.List.{list_any};
 ghost use Rattle.std.specs.String.{string_bytes};
 ghost use Rattle.utf16_text.specs.Units.{AreScalars};
-ghost use Rattle.livemd_lines.specs.Lines.{drop_end, drop_front, is_cr, is_space};
+ghost use Rattle.blanks.specs.Blanks.{drop_end, drop_front, is_cr, is_space};
 ghost use Rattle.livemd_lines.specs.Kinds.{byte_of};
 ghost use Rattle.livemd_format.specs.Tidy.{changed, clean, tidy_name};
 ghost use Rattle.livemd_write.specs.Texts.{space_for};
 
+use blanks::{trim_spaces, without_crs};
 use livemd_lines::Mark;
 use std::alloc::{AllocError, Global};
 use utf16_text::Text;
-
-/// The line without the carriage returns at its end.
-fn without_crs(line: &str) -> &str
-    ensures { result.now ≡ drop_end is_cr line.now }
-{
-    line.trim_end_matches('\r')
-}
-
-/// The text without spaces at its ends; other white space stays.
-fn trim_spaces(text: &str) -> &str
-    ensures { result.now ≡ drop_end is_space (drop_front is_space text.now) }
-{
-    text.trim_start_matches(' ').trim_end_matches(' ')
-}
 
 /// The text without the carriage returns that stand before a line feed or at its end.
 pub(crate) fn clean(alloc: Global, text: &str) -> Result<String, AllocError>

@@ -1,12 +1,12 @@
 //! Words of a text, with blanks between them, and what they write.
 ghost use Rattle.std.specs.Prelude.{◌≡◌, ℕ, MatchOption, slice_index};
 ghost use Rattle.std.specs.List.{list_all, position, position_or_len};
-ghost use Rattle.script.specs.Lines.{is_blank};
+ghost use Rattle.blanks.specs.Blanks.{is_space_or_tab};
 ghost use Rattle.script.specs.Words.{first_word, after_word};
 ghost use Rattle.script.specs.Name.{is_name, is_name_character, is_small_letter};
 ghost use Rattle.script.specs.Number.{IsNumber};
 
-use crate::cut::{is_blank, without_front_blanks};
+use blanks::{is_space_or_tab, without_front_blanks};
 
 /// The first word of a text, and what follows it and the blanks after it.
 pub(crate) fn split_word(text: &str) -> (&str, &str)
@@ -19,16 +19,16 @@ pub(crate) fn split_word(text: &str) -> (&str, &str)
 
 /// How many bytes stand before the first blank, or all where there is none.
 fn word_len(text: &[u8]) -> usize
-    ensures { result ≡ position_or_len is_blank text.now }
+    ensures { result ≡ position_or_len is_space_or_tab text.now }
 {
     first_blank(text).unwrap_or(text.len())
 }
 
 /// The place of the first blank.
 fn first_blank(text: &[u8]) -> Option<usize>
-    ensures { result ≡ position is_blank text.now }
+    ensures { result ≡ position is_space_or_tab text.now }
 {
-    text.iter().position(|b| is_blank(*b))
+    text.iter().position(|b| is_space_or_tab(*b))
 }
 
 /// Whether a word is a client's name in its form: a small letter, then up to 15 small letters,

@@ -1,15 +1,14 @@
 -- Each message of a client that was taken has a fair answer in the history.
-use Rattle.std.proofs.Common.{◌≡◌, ℕ, List, [], ◌∷◌, ◌++◌, Option, Some, refl, sym, ap, subst, ◌∙◌, append_assoc}
+use Rattle.std.proofs.Common.{◌≡◌, ℕ, List, [], ◌∷◌, ◌++◌, Some, refl, sym, ap, subst, ◌∙◌, append_assoc}
 use Rattle.notebook.specs.declared.parts.Parts.{Parts}
 use Rattle.notebook.specs.Rules.{IsNotebook}
 use Rattle.session_ops.specs.declared.entry.Op.{Op}
 use Rattle.session_ops.specs.declared.entry.Call.TheVariants.{Client as ByClient}
 use Rattle.session_ops.specs.declared.entry.Entry.{Entry}
-use Rattle.session_ops.specs.State.{state, reply}
 use Rattle.client_sync.specs.Client.{Client, client_of}
 use Rattle.world.specs.declared.event.Event.{Event}
 use Rattle.world.specs.declared.event.Event.TheVariants.{Take}
-use Rattle.world.specs.World.{World, first_world, next_entry, called, taken, if_held, happens, after_events, run}
+use Rattle.world.specs.World.{World, first_world, next_entry, taken, if_held, happens, after_events, run}
 use Rattle.world.specs.Waiting.{IsFairAnswer}
 use Rattle.world.specs.Messages.{HasFairAnswer, AreAnsweredFairly}
 use Rattle.world.proofs.Standing.{BeginsWith, events-go-on, run-opening}

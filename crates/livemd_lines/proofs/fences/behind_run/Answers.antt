@@ -3,8 +3,8 @@ use Rattle.std.specs.Str.Pattern.{FindsCharPrefix, IsTrimStartMatches}
 use Rattle.livemd_lines.specs.declared.fences.Mark.{Mark}
 use Rattle.livemd_lines.specs.declared.fences.Mark.TheVariants.{Backtick, Tilde}
 use Rattle.livemd_lines.specs.Kinds.{after_run, byte_of, is_byte, run}
-use Rattle.livemd_lines.proofs.Fronts.{front_and_rest}
-use Rattle.livemd_lines.proofs.Trims.{trim_start-is}
+use Rattle.blanks.proofs.Fronts.{front_and_rest}
+use Rattle.blanks.proofs.Trims.{trim_start-is}
 use Rattle.livemd_lines.proofs.fences.behind_run.Goals as goal
 
 small : (mark : Mark) → byte_of mark < 128

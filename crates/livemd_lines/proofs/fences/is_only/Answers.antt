@@ -1,7 +1,7 @@
 use Rattle.std.proofs.Common.{length, ap, ◌∙◌}
 use Rattle.std.specs.Prelude.{◌==◌}
 use Rattle.livemd_lines.specs.Kinds.{byte_of, is_byte}
-use Rattle.livemd_lines.proofs.Fronts.{all-none_behind}
+use Rattle.blanks.proofs.Fronts.{all-none_behind}
 use Rattle.livemd_lines.proofs.fences.is_only.Goals as goal
 
 pub returns : goal.returns

@@ -2,7 +2,8 @@ use Rattle.std.proofs.Common.{◌≡◌, List, ℕ, lit<, map, subst}
 use Rattle.std.specs.List.{slice_split}
 use Rattle.std.proofs.lemmas.Iterator.Splits.{YieldsList-from_str_split}
 use Rattle.std.proofs.lemmas.Iterator.Consumers.{YieldsList-end}
-use Rattle.livemd_lines.specs.Lines.{drop_end, is_cr, is_lf}
+use Rattle.blanks.specs.Blanks.{drop_end, is_cr}
+use Rattle.livemd_lines.specs.Lines.{is_lf}
 use Rattle.livemd_write.specs.Passages.{IsPassage}
 use Rattle.livemd_write.specs.Texts.{texts}
 use Rattle.livemd_write.proofs.Passaging.{passage_turn}

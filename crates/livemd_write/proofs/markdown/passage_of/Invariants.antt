@@ -1,5 +1,5 @@
 use Rattle.std.proofs.Common.{map}
-use Rattle.livemd_lines.specs.Lines.{drop_end, is_cr}
+use Rattle.blanks.specs.Blanks.{drop_end, is_cr}
 use Rattle.livemd_write.specs.Passages.{IsPassage}
 use Rattle.livemd_write.specs.Texts.{texts}
 use Rattle.livemd_write.proofs.markdown.passage_of.Given as goal

@@ -3,7 +3,8 @@ use Rattle.std.specs.List.{slice_split}
 use Rattle.std.specs.String.{string_bytes}
 use Rattle.std.proofs.lemmas.Iterator.Splits.{YieldsList-from_str_split}
 use Rattle.std.proofs.lemmas.Iterator.Consumers.{YieldsList-end}
-use Rattle.livemd_lines.specs.Lines.{drop_end, is_cr, is_lf}
+use Rattle.blanks.specs.Blanks.{drop_end, is_cr}
+use Rattle.livemd_lines.specs.Lines.{is_lf}
 use Rattle.livemd_write.specs.Texts.{texts}
 use Rattle.livemd_write.proofs.Pieces.{clean_made, join_turn}
 use Rattle.livemd_write.proofs.texts.clean.Goals as goal

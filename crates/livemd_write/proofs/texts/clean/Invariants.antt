@@ -1,6 +1,6 @@
 use Rattle.std.proofs.Common.{◌∷◌, []}
 use Rattle.std.specs.String.{string_bytes}
-use Rattle.livemd_lines.specs.Lines.{drop_end, is_cr}
+use Rattle.blanks.specs.Blanks.{drop_end, is_cr}
 use Rattle.livemd_write.proofs.Pieces.{IsJoined}
 use Rattle.livemd_write.proofs.texts.clean.Given as goal
 

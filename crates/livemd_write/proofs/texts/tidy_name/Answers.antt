@@ -1,7 +1,7 @@
 use Rattle.std.proofs.Common.{map, ap, ◌∙◌}
 use Rattle.std.specs.Prelude.{encode_utf8_all}
 use Rattle.std.specs.String.{string_bytes}
-use Rattle.livemd_lines.specs.Lines.{drop_end, drop_front, is_space}
+use Rattle.blanks.specs.Blanks.{drop_end, drop_front, is_space}
 use Rattle.livemd_format.specs.Tidy.{clean, tidy_name}
 use Rattle.livemd_write.specs.Texts.{space_for}
 use Rattle.livemd_write.proofs.Pieces.{name_made, text_made, weaker}

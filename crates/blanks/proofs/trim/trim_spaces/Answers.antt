@@ -1,7 +1,7 @@
 use Rattle.std.proofs.Common.{lit<, ◌∙◌, ap}
-use Rattle.livemd_lines.specs.Lines.{drop_end, is_space}
-use Rattle.livemd_lines.proofs.Trims.{trim_end-is, trim_start-is}
-use Rattle.livemd_lines.proofs.blanks.trim_spaces.Goals as goal
+use Rattle.blanks.specs.Blanks.{drop_end, is_space}
+use Rattle.blanks.proofs.Trims.{trim_end-is, trim_start-is}
+use Rattle.blanks.proofs.trim.trim_spaces.Goals as goal
 
 pub returns : goal.returns
 returns c =

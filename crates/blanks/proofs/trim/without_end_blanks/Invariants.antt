@@ -1,6 +1,6 @@
 use Rattle.std.proofs.Common.{◌≡◌, ◌<◌, ◌≤◌, true, take, length, get_or}
-use Rattle.livemd_lines.specs.Lines.{drop_end, is_space_or_tab}
-use Rattle.livemd_lines.proofs.blanks.without_end_blanks.Given as goal
+use Rattle.blanks.specs.Blanks.{drop_end, is_space_or_tab}
+use Rattle.blanks.proofs.trim.without_end_blanks.Given as goal
 
 -- what stands behind the end found are spaces and tabs
 abbrev pub invariant-loop-end : goal.invariant-loop-end

@@ -1,8 +1,8 @@
 use Rattle.std.proofs.Common.{◌≡◌, ◌<◌, false, length, get_or, ◌∙◌, arith}
-use Rattle.livemd_lines.proofs.Fronts.{front_boundary, drop_front-is}
-use Rattle.livemd_lines.specs.Lines.{is_space_or_tab}
-use Rattle.livemd_lines.proofs.blanks.without_front_blanks.Goals as goal
-use Rattle.livemd_lines.proofs.blanks.without_front_blanks.Goals.{then-loop-start-test+else-is_space_or_tab, else-loop-start-test}
+use Rattle.blanks.proofs.Fronts.{front_boundary, drop_front-is}
+use Rattle.blanks.specs.Blanks.{is_space_or_tab}
+use Rattle.blanks.proofs.trim.without_front_blanks.Goals as goal
+use Rattle.blanks.proofs.trim.without_front_blanks.Goals.{then-loop-start-test+else-is_space_or_tab, else-loop-start-test}
 
 pub range_from-requires : goal.range_from-requires
 range_from-requires c = λ _. front_boundary c.args.text.now c.loop-start.start c.utf8.text c.loop-start.invariant.within c.loop-start.invariant.cut

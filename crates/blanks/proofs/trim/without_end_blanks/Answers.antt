@@ -1,9 +1,9 @@
 use Rattle.std.proofs.Common.{◌≡◌, ◌<◌, ◌-◌, false, get_or, arith}
 use native.Mathlib.Nat.{sub-zero}
-use Rattle.livemd_lines.specs.Lines.{is_space_or_tab}
-use Rattle.livemd_lines.proofs.Trims.{cut_back, cut_ends}
-use Rattle.livemd_lines.proofs.blanks.without_end_blanks.Goals as goal
-use Rattle.livemd_lines.proofs.blanks.without_end_blanks.Goals.{then-loop-end-test+else-is_space_or_tab, else-loop-end-test}
+use Rattle.blanks.specs.Blanks.{is_space_or_tab}
+use Rattle.blanks.proofs.Trims.{cut_back, cut_ends}
+use Rattle.blanks.proofs.trim.without_end_blanks.Goals as goal
+use Rattle.blanks.proofs.trim.without_end_blanks.Goals.{then-loop-end-test+else-is_space_or_tab, else-loop-end-test}
 
 pub loop-end-preserved : goal.loop-end-preserved
 loop-end-preserved c = record {

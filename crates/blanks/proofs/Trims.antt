@@ -1,13 +1,29 @@
 -- What std's trims give, as lists without the bytes at an end that pass.
-use Rattle.std.proofs.Common.{◌≡◌, ℕ, ◌+◌, ◌-◌, ◌<◌, ◌≤◌, ◌⊎◌, inl, inr, Bool, true, false, cond, List, [], ◌∷◌, ◌++◌, Option, Some, None, length, take, drop, get_or, zero, suc, refl, sym, ap, ◌∙◌, arith, eqb-true, eq-eqb, IfSome}
+use Rattle.std.proofs.Common.{◌≡◌, ℕ, ◌+◌, ◌-◌, ◌<◌, ◌≤◌, ◌⊎◌, inl, inr, Bool, true, false, ◌&&◌, cond, List, [], ◌∷◌, ◌++◌, Option, Some, None, length, take, drop, get_or, zero, suc, refl, sym, ap, ◌∙◌, arith, eqb-true, eq-eqb, IfSome}
 use Rattle.std.proofs.Math.Seq.{drop-length}
 use Rattle.std.specs.Prelude.{◌==◌}
 use Rattle.std.specs.Str.Pattern.{FindsCharPrefix, FindsCharSuffix, CutsPrefixes, CutsSuffixes, IsTrimStartMatches, IsTrimEndMatches}
 use Rattle.std.proofs.lemmas.List.{take-append-drop, take_more}
 use Rattle.std.proofs.lemmas.Str.{len_utf8_ascii, encode_ascii}
 use Rattle.std.proofs.lemmas.Str.Pattern.{drop_at_char}
-use Rattle.livemd_lines.specs.Lines.{drop_end, drop_front}
-use Rattle.livemd_format.proofs.Trimming.{drop_end-gone, drop_end-kept}
+use Rattle.blanks.specs.Blanks.{is_empty, drop_end, drop_front}
+
+not_empty : {X : Type 0} (xs : List X) (c : X) → is_empty (xs ++ c ∷ []) ≡ false
+not_empty [] c = refl
+not_empty (x ∷ xs) c = refl
+
+stays : {X : Type 0} (a : Bool) (x : X) (xs : List X) (c : X) → cond (a && is_empty (xs ++ c ∷ [])) [] (x ∷ (xs ++ c ∷ [])) ≡ x ∷ (xs ++ c ∷ [])
+stays true x xs c = rw (not_empty xs c) refl
+stays false x xs c = refl
+
+-- an element at the end that passes goes, and with one that doesn't all stays
+pub drop_end-gone : {X : Type 0} (p : X → Bool) (xs : List X) (c : X) → p c ≡ true → drop_end p (xs ++ c ∷ []) ≡ drop_end p xs
+drop_end-gone p [] c h = rw h refl
+drop_end-gone p (x ∷ xs) c h = ap (λ w. cond (p x && is_empty w) [] (x ∷ w)) (drop_end-gone p xs c h)
+
+pub drop_end-kept : {X : Type 0} (p : X → Bool) (xs : List X) (c : X) → p c ≡ false → drop_end p (xs ++ c ∷ []) ≡ xs ++ c ∷ []
+drop_end-kept p [] c h = rw h refl
+drop_end-kept p (x ∷ xs) c h = ap (λ w. cond (p x && is_empty w) [] (x ∷ w)) (drop_end-kept p xs c h) ∙ stays (p x) x xs c
 
 -- a list is empty or has a last element
 last_of : {X : Type 0} (xs : List X) → (xs ≡ []) ⊎ ((front : List X) × ((x : X) × (xs ≡ front ++ x ∷ [])))

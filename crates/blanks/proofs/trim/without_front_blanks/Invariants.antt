@@ -1,6 +1,6 @@
 use Rattle.std.proofs.Common.{◌≡◌, ℕ, ◌<◌, ◌≤◌, ◌-◌, true, length, get_or}
-use Rattle.livemd_lines.specs.Lines.{is_space_or_tab}
-use Rattle.livemd_lines.proofs.blanks.without_front_blanks.Given as goal
+use Rattle.blanks.specs.Blanks.{is_space_or_tab}
+use Rattle.blanks.proofs.trim.without_front_blanks.Given as goal
 
 -- all before the start found are spaces and tabs
 abbrev pub invariant-loop-start : goal.invariant-loop-start

@@ -5,7 +5,7 @@ use Rattle.std.specs.Prelude.{◌==◌}
 use Rattle.std.specs.List.{list_all}
 use Rattle.std.specs.Str.{IsUtf8, IsCharBoundary}
 use Rattle.std.proofs.lemmas.Str.{IsCharBoundary-start, IsCharBoundary-after_ascii}
-use Rattle.livemd_lines.specs.Lines.{drop_front, front_of, is_space_or_tab}
+use Rattle.blanks.specs.Blanks.{drop_front, front_of, is_space_or_tab}
 
 pub is_space_or_tab-ascii : (b : ℕ) → is_space_or_tab b ≡ true → b < 128
 is_space_or_tab-ascii b h = grind (arith, nat_tests)
