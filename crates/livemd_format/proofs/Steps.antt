@@ -165,14 +165,16 @@ kinds_forced around (l ∷ ls) more =
     ∙ kinds_more (needs_force k) (kinded around l) (forced_kinds (kinds_in next ls)) (kinds_in (open_behind next ls) more)))
 
 -- a line that needs no force may stand and forces nothing; one that needs it isn't blank
+allowed : (b : Bool) → not b ≡ false → b ≡ true
+allowed true h = refl
+allowed false h = absurd cc
+
+unforcing : (k : Kind) → may_stand k ≡ true → is_force k ≡ false
+unforcing (Meta meaning) h = absurd cc
+unforcing k h = refl
+
 stands : (k : Kind) → needs_force k ≡ false → (is_force k ≡ false) × (may_stand k ≡ true)
-stands (Opens fence info) h = (refl, rw h refl)
-stands Inside h = (refl, refl)
-stands Closes h = (refl, refl)
-stands (Meta meaning) h = absurd cc
-stands (Heading1 name) h = (refl, refl)
-stands (Heading2 name) h = absurd cc
-stands Plain h = (refl, refl)
+stands k h = let may : may_stand k ≡ true = allowed (may_stand k) h in (unforcing k may, may)
 
 abbrev IsForcedText : Kinded → Type 0
 IsForcedText k = needs_force k.kind ≡ true → is_blank k.text ≡ false

@@ -1,5 +1,5 @@
 -- The text of a tidy notebook: blocks of lines, with an empty line between two.
-use Rattle.std.specs.Prelude.{ℕ, ◌+◌, ◌&&◌, max, Bool, true, false, if◌then◌else◌, List, [], ◌∷◌, ◌++◌, map, Option, Some, None, codes, decimal, encode_utf8_all}
+use Rattle.std.specs.Prelude.{ℕ, ◌+◌, ◌&&◌, max, not, Bool, true, if◌then◌else◌, List, [], ◌∷◌, ◌++◌, map, Option, Some, None, codes, decimal, encode_utf8_all}
 use Rattle.std.specs.List.{flat_map}
 use Rattle.notebook.specs.declared.parts.Cell.{Cell}
 use Rattle.notebook.specs.declared.parts.Saved.{Saved}
@@ -7,9 +7,9 @@ use Rattle.notebook.specs.declared.parts.Section.{Section}
 use Rattle.notebook.specs.declared.parts.Parts.{Parts}
 use Rattle.blanks.specs.Blanks.{is_empty}
 use Rattle.livemd_lines.specs.Lines.{lines}
-use Rattle.livemd_lines.specs.Kinds.{Kind, Opens, Meta, Heading2, Kinded, kinds_of}
+use Rattle.livemd_lines.specs.Kinds.{Kind, Kinded, kinds_of}
 use Rattle.livemd_lines.specs.Written.{fenced, longest_run, text_of_lines}
-use Rattle.livemd_format.specs.Items.{is_code}
+use Rattle.livemd_format.specs.Items.{may_stand}
 use Rattle.livemd_format.specs.Tidy.{is_markdown, number_from, pieces}
 
 -- a block is its lines
@@ -52,12 +52,9 @@ fence_block info text = fenced (fence_len text) info (pieces text)
 
 -- ---- cells
 
--- what isn't read as text outside fences, unless it is forced
+-- what may not stand within Markdown text, unless it is forced
 abbrev pub needs_force : Kind → Bool
-needs_force (Opens fence info) = is_code fence info
-needs_force (Heading2 name) = true
-needs_force (Meta meaning) = true
-needs_force other = false
+needs_force kind = not (may_stand kind)
 
 -- the forcing line and an empty line
 abbrev pub force : Kind → List (List ℕ)

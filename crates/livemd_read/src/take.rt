@@ -4,7 +4,7 @@ ghost use Rattle.std.specs.String.{string_bytes};
 ghost use Rattle.blanks.specs.Blanks.{drop_end, is_blank, is_space_or_tab};
 ghost use Rattle.livemd_lines.specs.Kinds.{Opens, Heading1};
 ghost use Rattle.livemd_lines.specs.Views.{kind_view, line_view};
-ghost use Rattle.livemd_format.specs.Items.{at_setup, cut, cut_by, cut_metadata, is_closing_kind, is_code, is_force, is_inside, may_stand, one_line, output_at};
+ghost use Rattle.livemd_format.specs.Items.{at_setup, cut, cut_by, cut_metadata, is_closing_kind, is_force, is_inside, one_line, output_at};
 ghost use Rattle.livemd_format.specs.Items as format;
 ghost use Rattle.livemd_format.specs.Reads.{items_of};
 ghost use Rattle.livemd_read.specs.Resume.{fenced_item, resume, BeginsText, Cuts, Takes};
@@ -14,32 +14,15 @@ use crate::done::Done;
 use crate::items::Item;
 use crate::open::{Content, Open, Passage, with_line};
 use blanks::without_end_blanks;
-use livemd_lines::{Fence, Line, LineKind, Mark, Metadata};
+use livemd_format::{is_code, may_stand};
+use livemd_lines::{Fence, Line, LineKind, Metadata};
 use std::alloc::{AllocError, Global};
-
-/// Whether what stands in the fence is code.
-fn is_code(fence: Fence, info: &str) -> bool
-    ensures { result ≡ is_code fence info.now }
-{
-    matches!(fence.mark, Mark::Backtick) && info == "elixir"
-}
 
 /// Whether a line of the kind forces the next one to be text.
 fn is_force(kind: &LineKind<'_>) -> bool
     ensures { result ≡ is_force (kind_view kind.now) }
 {
     matches!(kind, LineKind::Metadata(Metadata::ForceMarkdown))
-}
-
-/// Whether a line of the kind may stand within Markdown text that isn't forced.
-fn may_stand(kind: &LineKind<'_>) -> bool
-    ensures { result ≡ may_stand (kind_view kind.now) }
-{
-    match kind {
-        LineKind::Opens { fence, info } => !is_code(*fence, info),
-        LineKind::Heading2(_) | LineKind::Metadata(_) => false,
-        _ => true,
-    }
 }
 
 /// Whether a line of the kind stands inside a fence.

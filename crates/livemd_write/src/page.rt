@@ -7,10 +7,9 @@ ghost use Rattle.livemd_lines.specs.Lines.{lines};
 ghost use Rattle.livemd_lines.specs.Kinds.{kinds_of};
 ghost use Rattle.livemd_lines.specs.Views.{kind_view, line_view};
 ghost use Rattle.livemd_lines.specs.Written.{text_of_lines};
-ghost use Rattle.livemd_format.specs.Items.{is_code};
 ghost use Rattle.livemd_format.specs.RoundTrip.{AreCellTexts, AreSectionTexts, AreTexts};
 ghost use Rattle.livemd_format.specs.Tidy.{changed, is_markdown, number_from, tidied, tidy_before, tidy_cell, tidy_cells, tidy_name};
-ghost use Rattle.livemd_format.specs.Write.{blocks, branch_blocks, branch_line, break_blocks, cell_blocks, code_blocks, force, forced_lines, kept_blocks, line_block, markdown_block, needs_force, own_blocks, saved_blocks, setup_blocks};
+ghost use Rattle.livemd_format.specs.Write.{blocks, branch_blocks, branch_line, break_blocks, cell_blocks, code_blocks, force, forced_lines, kept_blocks, line_block, markdown_block, own_blocks, saved_blocks, setup_blocks};
 ghost use Rattle.livemd_write.specs.Pages.{Puts, PutsCellText, tidy_section_blocks};
 ghost use Rattle.livemd_write.specs.Told.{told, told_cell, told_section};
 
@@ -18,7 +17,8 @@ use crate::cells::{is_markdown, stays, tidy_body, tidy_cell};
 use crate::fences::push_fence;
 use crate::texts::{clean_text, tidy_name};
 use itoa::Buffer;
-use livemd_lines::{Fence, Line, LineKind, Mark};
+use livemd_format::may_stand;
+use livemd_lines::{Line, LineKind};
 use notebook::{Cell, Parts, Saved, Section, SectionId};
 use std::alloc::{AllocError, Global};
 use utf16_text::Text;
@@ -105,29 +105,11 @@ fn push_code(out: &mut String, cell: &Cell) -> Result<(), AllocError>
     Ok(())
 }
 
-/// Whether what stands in the fence is code.
-fn is_code(fence: Fence, info: &str) -> bool
-    ensures { result ≡ is_code fence info.now }
-{
-    matches!(fence.mark, Mark::Backtick) && info == "elixir"
-}
-
-/// Whether a line of the kind isn't read as text outside fences, unless it is forced.
-fn needs_force(kind: &LineKind<'_>) -> bool
-    ensures { result ≡ needs_force (kind_view kind.now) }
-{
-    match kind {
-        LineKind::Opens { fence, info } => is_code(*fence, info),
-        LineKind::Heading2(_) | LineKind::Metadata(_) => true,
-        _ => false,
-    }
-}
-
 /// Puts what a line of the kind needs before it.
 fn push_force(out: &mut String, kind: &LineKind<'_>) -> Result<(), AllocError>
     ensures ok { OnOk result (string_bytes out.new ≡ string_bytes out.old ++ text_of_lines (force (kind_view kind.now))) }
 {
-    if !needs_force(kind) {
+    if may_stand(kind) {
         return Ok(());
     }
     out.push_str("<!-- livebook:{\"force_markdown\":true} -->\n\n")?;
