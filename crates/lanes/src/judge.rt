@@ -12,7 +12,7 @@ ghost use Rattle.lanes.specs.Rows.{IsRow};
 use crate::walk::{has_cell, is_path, is_same_lane, own_cells};
 use crate::work::{Finished, Mark, Work};
 use ex_model::{Outcome, Shown};
-use notebook::{CellId, Lane, Notebook, Status, Steps, Validity};
+use notebook::{CellId, Lane, Notebook, Status, FlowCells, Validity};
 
 /// What is known of a cell. `shown` is what its last finished evaluation showed, also where that isn't
 /// valid any more.
@@ -47,7 +47,7 @@ fn status_by(runs: bool, queued: bool) -> Status
 }
 
 /// What the last finished evaluation is worth where the cell's flow is this one.
-fn validity_by(aborted: bool, last: Option<&Finished>, flow: Steps<'_>) -> Validity
+fn validity_by(aborted: bool, last: Option<&Finished>, flow: FlowCells<'_>) -> Validity
     ensures { result ≡ validity_by aborted (option_map path_read (option_copied last.entry)) (map passed (left flow.entry)) }
 {
     if aborted {
@@ -104,14 +104,14 @@ impl Work {
     }
 
     /// What the cell's last finished evaluation is worth where its flow is this one.
-    fn validity(&self, cell: CellId, flow: Steps<'_>) -> Validity
+    fn validity(&self, cell: CellId, flow: FlowCells<'_>) -> Validity
         ensures { result ≡ validity_by (is_aborted self.now cell) (option_map path_read (last_finished self.now cell)) (map passed (left flow.entry)) }
     {
         validity_by(self.is_aborted(cell), self.last(cell), flow)
     }
 
     /// Whether the cell's last finished evaluation counts where its flow is this one.
-    fn is_evaluated_on(&self, cell: CellId, flow: Steps<'_>) -> bool
+    fn is_evaluated_on(&self, cell: CellId, flow: FlowCells<'_>) -> bool
         ensures { result ≡ is_evaluated_on self.now cell (map passed (left flow.entry)) }
     {
         match self.validity(cell, flow) {
@@ -140,7 +140,7 @@ impl Work {
     }
 
     /// The first of these cells that is evaluated and shows a fault.
-    fn first_failed(&self, book: &Notebook, cells: Steps<'_>) -> Option<CellId>
+    fn first_failed(&self, book: &Notebook, cells: FlowCells<'_>) -> Option<CellId>
         ensures { result ≡ find (has_failed book.now self.now) (map cell_number (left cells.entry)) }
     {
         let mut rest = cells;
@@ -182,7 +182,7 @@ impl Work {
     }
 
     /// The first of these cells that is due.
-    fn first_due(&self, book: &Notebook, cells: Steps<'_>) -> Option<CellId>
+    fn first_due(&self, book: &Notebook, cells: FlowCells<'_>) -> Option<CellId>
         ensures { result ≡ find (is_due book.now self.now) (map cell_number (left cells.entry)) }
     {
         let mut rest = cells;
@@ -206,7 +206,7 @@ impl Work {
     }
 
     /// Whether all of these cells are settled.
-    fn are_settled(&self, book: &Notebook, cells: Steps<'_>) -> bool
+    fn are_settled(&self, book: &Notebook, cells: FlowCells<'_>) -> bool
         ensures { result ≡ list_all (is_settled book.now self.now) (map cell_number (left cells.entry)) }
     {
         let mut rest = cells;

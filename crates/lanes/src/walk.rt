@@ -8,7 +8,7 @@ ghost use Rattle.notebook.specs.Flow.{passed, is_cell};
 ghost use Rattle.notebook.specs.Validity.{same_path, same_passed};
 ghost use Rattle.lanes.specs.Work.{own_cells, same_lane, is_branch, stands_in};
 
-use notebook::{Cell, CellId, Lane, Notebook, Passed, Section, SectionId, Steps};
+use notebook::{Cell, CellId, Lane, Notebook, Passed, Section, SectionId, FlowCells};
 use plain_list::Items;
 use std::alloc::{AllocError, Global};
 
@@ -20,7 +20,7 @@ fn is_same(read: &Passed, cell: &Cell) -> bool
 }
 
 /// Whether a path that was read goes through these cells, with the sources that they have now.
-pub(crate) fn is_path(read: &[Passed], cells: Steps<'_>) -> bool
+pub(crate) fn is_path(read: &[Passed], cells: FlowCells<'_>) -> bool
     ensures { result ≡ same_path read.now (map passed (left cells.entry)) }
 {
     let mut rest = cells;
@@ -37,7 +37,7 @@ pub(crate) fn is_path(read: &[Passed], cells: Steps<'_>) -> bool
 }
 
 /// Whether a cell is among these.
-pub(crate) fn has_cell(cells: Steps<'_>, id: CellId) -> bool
+pub(crate) fn has_cell(cells: FlowCells<'_>, id: CellId) -> bool
     ensures { result ≡ list_any (is_cell id) (left cells.entry) }
 {
     let mut rest = cells;
@@ -51,7 +51,7 @@ pub(crate) fn has_cell(cells: Steps<'_>, id: CellId) -> bool
 }
 
 /// The cells with their sources, copied.
-pub(crate) fn path_of(alloc: Global, cells: Steps<'_>) -> Result<Items<Passed>, AllocError>
+pub(crate) fn path_of(alloc: Global, cells: FlowCells<'_>) -> Result<Items<Passed>, AllocError>
     ensures { IfOk result (λ p. p ≡ map passed (left cells.entry)) }
 {
     let mut path = Items::new(alloc);
@@ -92,14 +92,14 @@ fn branch_of(sections: &[Section], id: SectionId) -> Option<&Section>
 }
 
 /// A lane's own cells; none where there is no such lane.
-pub(crate) fn own_cells(book: &Notebook, lane: Lane) -> Steps<'_>
+pub(crate) fn own_cells(book: &Notebook, lane: Lane) -> FlowCells<'_>
     ensures { left result ≡ own_cells book.now lane }
 {
     match lane {
-        Lane::Main => Steps::of_main(book.parts()),
+        Lane::Main => FlowCells::of_main(book.parts()),
         Lane::Branch(section) => match branch_of(book.parts().sections.as_slice(), section) {
-            None => Steps::none(),
-            Some(branch) => Steps::of_section(branch),
+            None => FlowCells::none(),
+            Some(branch) => FlowCells::of_section(branch),
         },
     }
 }

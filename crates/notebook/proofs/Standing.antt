@@ -15,7 +15,7 @@ use Rattle.notebook.specs.declared.parts.Parts.{Parts}
 use Rattle.notebook.specs.declared.parts.Kind.TheVariants.{Setup}
 use Rattle.notebook.specs.declared.states.Lane.{Lane}
 use Rattle.notebook.specs.declared.states.Lane.TheVariants.{Main, Branch}
-use Rattle.notebook.specs.declared.before.Steps.{Steps}
+use Rattle.notebook.specs.declared.before.FlowCells.{FlowCells}
 use Rattle.notebook.specs.declared.before.Cut.{Cut}
 use Rattle.notebook.specs.declared.before.Home.{Home}
 use Rattle.notebook.specs.declared.before.Before.{Before}

@@ -5,7 +5,7 @@ use Rattle.std.specs.Borrow.{Bor}
 use Rattle.notebook.specs.declared.parts.Cell.{Cell}
 use Rattle.notebook.specs.declared.parts.Section.{Section}
 use Rattle.notebook.specs.declared.parts.Parts.{Parts}
-use Rattle.notebook.specs.declared.before.Steps.{Steps}
+use Rattle.notebook.specs.declared.before.FlowCells.{FlowCells}
 use Rattle.notebook.specs.declared.before.Cut.{Cut}
 use Rattle.notebook.specs.declared.before.Home.{Home}
 use Rattle.notebook.specs.declared.before.Before.{Before}
@@ -17,7 +17,7 @@ lent None = []
 lent (Some c) = c.now ∷ []
 
 -- the cells that are left to be gone through
-abbrev pub left : Steps → List Cell
+abbrev pub left : FlowCells → List Cell
 left s = lent s.setup ++ (code_cells s.open.now ++ (main_cells s.front.now ++ code_cells s.own.now))
 
 -- the first code cell of the number, what stands before it, and the same with the cell

@@ -15,7 +15,7 @@ use crate::states::Lane;
 /// is among them, the code of `open`, that of the sections of `front` that branch from none, and that
 /// of `own`.
 #[derive(Clone, Copy, Debug)]
-pub struct Steps<'a> {
+pub struct FlowCells<'a> {
     setup: Option<&'a Cell>,
     open: &'a [Cell],
     front: &'a [Section],
@@ -28,9 +28,9 @@ pub struct Before<'a> {
     pub lane: Lane,
     pub cell: &'a Cell,
     /// What stands before the cell.
-    pub earlier: Steps<'a>,
+    pub earlier: FlowCells<'a>,
     /// The same and then the cell.
-    pub flow: Steps<'a>,
+    pub flow: FlowCells<'a>,
 }
 
 /// A code cell of a section, what stands before it there, and the same with the cell.
@@ -49,12 +49,12 @@ struct Home<'a> {
     cut: Cut<'a>,
 }
 
-impl<'a> Steps<'a> {
+impl<'a> FlowCells<'a> {
     /// No cell.
-    pub fn none() -> Steps<'a>
+    pub fn none() -> FlowCells<'a>
         ensures { left result ≡ [] }
     {
-        Steps {
+        FlowCells {
             setup: None,
             open: &[],
             front: &[],
@@ -63,10 +63,10 @@ impl<'a> Steps<'a> {
     }
 
     /// The code cells of a section.
-    pub fn of_section(section: &'a Section) -> Steps<'a>
+    pub fn of_section(section: &'a Section) -> FlowCells<'a>
         ensures { left result ≡ section_code section.now }
     {
-        Steps {
+        FlowCells {
             setup: None,
             open: section.cells.as_slice(),
             front: &[],
@@ -75,10 +75,10 @@ impl<'a> Steps<'a> {
     }
 
     /// The cells of the main lane.
-    pub fn of_main(parts: &'a Parts) -> Steps<'a>
+    pub fn of_main(parts: &'a Parts) -> FlowCells<'a>
         ensures { left result ≡ lane_cells parts.now Main }
     {
-        Steps {
+        FlowCells {
             setup: Some(&parts.setup),
             open: &[],
             front: parts.sections.as_slice(),
@@ -87,25 +87,25 @@ impl<'a> Steps<'a> {
     }
 
     /// The first of the cells, and those after it; `None` exactly where none is left.
-    pub fn next(self) -> Option<(&'a Cell, Steps<'a>)>
+    pub fn next(self) -> Option<(&'a Cell, FlowCells<'a>)>
         ensures { MatchOption result (left self.entry ≡ []) (λ p. left self.entry ≡ p.0.now ∷ left p.1) }
     {
         if let Some(cell) = self.setup {
             return Some((
                 cell,
-                Steps {
+                FlowCells {
                     setup: None,
                     ..self
                 },
             ));
         }
         if let Some((cell, open)) = next_code(self.open) {
-            return Some((cell, Steps { open, ..self }));
+            return Some((cell, FlowCells { open, ..self }));
         }
         if let Some((cell, open, front)) = next_main(self.front) {
             return Some((
                 cell,
-                Steps {
+                FlowCells {
                     open,
                     front,
                     ..self
@@ -113,7 +113,7 @@ impl<'a> Steps<'a> {
             ));
         }
         let (cell, own) = next_code(self.own)?;
-        Some((cell, Steps { own, ..self }))
+        Some((cell, FlowCells { own, ..self }))
     }
 }
 
@@ -204,8 +204,8 @@ fn at_setup(setup: &Cell) -> Before<'_>
     Before {
         lane: Lane::Main,
         cell: setup,
-        earlier: Steps::none(),
-        flow: Steps {
+        earlier: FlowCells::none(),
+        flow: FlowCells {
             setup: Some(setup),
             open: &[],
             front: &[],
@@ -226,7 +226,7 @@ pub fn standing(parts: &Parts, id: CellId) -> Option<Before<'_>>
     let sections = parts.sections.as_slice();
     let home = home_of(sections, id)?;
     let front = front_of(sections, &home);
-    let earlier = Steps {
+    let earlier = FlowCells {
         setup: Some(&parts.setup),
         open: &[],
         front,
@@ -236,7 +236,7 @@ pub fn standing(parts: &Parts, id: CellId) -> Option<Before<'_>>
         lane: home.section.lane(),
         cell: home.cut.cell,
         earlier,
-        flow: Steps {
+        flow: FlowCells {
             own: home.cut.through,
             ..earlier
         },

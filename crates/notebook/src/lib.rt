@@ -15,7 +15,7 @@ mod parts;
 mod sections;
 mod states;
 
-pub use before::{Before, Steps};
+pub use before::{Before, FlowCells};
 pub use book::Notebook;
 pub use change::{CellKind, Change, Changed, NoteError};
 pub use parts::{Cell, CellId, Kind, Parts, Passed, Saved, Section, SectionId};

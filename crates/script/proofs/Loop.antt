@@ -1,7 +1,7 @@
 -- How far a script was read.
 use Rattle.std.proofs.Common.{◌≡◌, ◌∙◌, ℕ, ◌+◌, ◌<◌, ◌≤◌, List, [], ◌∷◌, ◌++◌, length, refl, sym, ap, subst, arith, length-append, append-nil, append_assoc}
 use Rattle.script.specs.declared.content.Content.{Content}
-use Rattle.script.specs.declared.error.Refusal.TheVariants.{Fault}
+use Rattle.script.specs.declared.error.LineError.TheVariants.{Fault}
 use Rattle.script.specs.declared.error.LineFault.{LineFault}
 use Rattle.script.specs.Lines.{lines}
 use Rattle.script.specs.Script.{IsScript, IsScriptOf, IsFirstBad}

@@ -10,8 +10,8 @@ use Rattle.std.proofs.lemmas.List.Elements.{filter-append}
 use Rattle.script.specs.declared.line.ScriptLine.{ScriptLine}
 use Rattle.script.specs.declared.line.ScriptLine.TheVariants.{Join, Leave, Edit, Post, PostReport, Send, Recv, Sync, Show, Pending, Settle, Cells, Book, RawJoin, Raw}
 use Rattle.script.specs.declared.content.Content.{Content}
-use Rattle.script.specs.declared.error.Refusal.{Refusal}
-use Rattle.script.specs.declared.error.Refusal.TheVariants.{Fault, OutOfMemory}
+use Rattle.script.specs.declared.error.LineError.{LineError}
+use Rattle.script.specs.declared.error.LineError.TheVariants.{Fault, OutOfMemory}
 use Rattle.script.specs.declared.error.LineFault.TheVariants.{NotUtf8}
 use Rattle.script.specs.Words.{first_word, after_word}
 use Rattle.script.specs.Lines.{texts, said, is_skipped}
@@ -233,12 +233,12 @@ line-before before line old new is kept script =
     (has.last, (has.is.0, rest-before old.names new.names (after_word (said line)) (client_of has.last) has.last script.clients.forms script.clients.differ script.clients.few same.1 next seen has.is.1))
 
 -- what taking a line's text says of the line
-stop-from_unfit : (line : List ℕ) (old : Content) (e : Refusal) → IsUtf8 line → is_skipped (said line) ≡ false → IsUnfit old (first_word (said line)) (after_word (said line)) e → IsStop line old e
+stop-from_unfit : (line : List ℕ) (old : Content) (e : LineError) → IsUtf8 line → is_skipped (said line) ≡ false → IsUnfit old (first_word (said line)) (after_word (said line)) e → IsStop line old e
 stop-from_unfit line old (Fault kind) utf8 kept unfit =
     (subst (IsFault line) (sym unfit.0) utf8, λ before new is script. (let found = line-before before line old new is kept script in unfit.1 found.0 found.1))
 stop-from_unfit line old OutOfMemory utf8 kept unfit = tt
 
-pub read-from_taken : (line : List ℕ) (old : Content) (r : Result Content Refusal) → IsUtf8 line → is_skipped (said line) ≡ false
+pub read-from_taken : (line : List ℕ) (old : Content) (r : Result Content LineError) → IsUtf8 line → is_skipped (said line) ≡ false
     → MatchResult r (IsNext old (first_word (said line)) (after_word (said line))) (IsUnfit old (first_word (said line)) (after_word (said line))) → MatchResult r (ReadsOn line old) (IsStop line old)
 read-from_taken line old (Ok new) utf8 kept next = λ before is. IsScript-next before line old new is utf8 kept next
 read-from_taken line old (Err e) utf8 kept unfit = stop-from_unfit line old e utf8 kept unfit

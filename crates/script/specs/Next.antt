@@ -2,8 +2,8 @@
 use Rattle.std.specs.Prelude.{◌≡◌, ◌≢◌, ℕ, ◌<◌, ◌==◌, if◌then◌else◌, ◌⊎◌, List, [], ◌∷◌, ◌++◌, length, slice_get, Option, Some, None, MatchOption}
 use Rattle.script.specs.declared.line.ScriptLine.{ScriptLine}
 use Rattle.script.specs.declared.content.Content.{Content}
-use Rattle.script.specs.declared.error.Refusal.{Refusal}
-use Rattle.script.specs.declared.error.Refusal.TheVariants.{Fault, OutOfMemory}
+use Rattle.script.specs.declared.error.LineError.{LineError}
+use Rattle.script.specs.declared.error.LineError.TheVariants.{Fault, OutOfMemory}
 use Rattle.script.specs.declared.error.LineFault.TheVariants.{Unbuilt}
 use Rattle.script.specs.Name.{IsName}
 use Rattle.script.specs.Words.{first_word, after_word}
@@ -62,7 +62,7 @@ pub record IsNext (old : Content) (word rest : List ℕ) (new : Content) : Type 
   pub names : new.names ≡ names_with old.names (client_of line) (first_word rest)
 
 -- why the word and the rest are no further line
-abbrev pub IsUnfit : Content → List ℕ → List ℕ → Refusal → Type 0
+abbrev pub IsUnfit : Content → List ℕ → List ℕ → LineError → Type 0
 IsUnfit old word rest (Fault kind) = (kind ≡ Unbuilt) × ((line : ScriptLine) → ¬ (IsNextLine old.names word rest line))
 IsUnfit old word rest OutOfMemory = Unit {0}
 
@@ -71,6 +71,6 @@ abbrev pub ReadsOn : List ℕ → Content → Content → Type 0
 ReadsOn line old new = (before : List (List ℕ)) → IsScript before old → IsScript (before ++ line ∷ []) new
 
 -- why it makes them stand for no script
-abbrev pub IsStop : List ℕ → Content → Refusal → Type 0
+abbrev pub IsStop : List ℕ → Content → LineError → Type 0
 IsStop line old (Fault kind) = IsFault line kind × ((before : List (List ℕ)) (new : Content) → IsScript before old → ¬ (IsScript (before ++ line ∷ []) new))
 IsStop line old OutOfMemory = Unit {0}

@@ -1,6 +1,6 @@
 //! Why bytes are no script.
 ghost use Rattle.std.specs.Prelude.{◌≡◌};
-ghost use Rattle.script.specs.declared.error.Refusal.TheVariants.{OutOfMemory as RefusalMemory};
+ghost use Rattle.script.specs.declared.error.LineError.TheVariants.{OutOfMemory as LineMemory};
 ghost use Rattle.script.specs.declared.error.ScriptError.TheVariants.{OutOfMemory};
 
 use std::alloc::AllocError;
@@ -40,17 +40,17 @@ impl From<AllocError> for ScriptError {
 
 /// Why a line is not taken.
 #[derive(Clone, Copy, Debug, PartialEq, Eq)]
-pub(crate) enum Refusal {
+pub(crate) enum LineError {
     /// The line has a fault.
     Fault(LineFault),
     /// Memory ran out.
     OutOfMemory,
 }
 
-impl From<AllocError> for Refusal {
-    ghost from_gives = { λ _ e. e ≡ RefusalMemory };
+impl From<AllocError> for LineError {
+    ghost from_gives = { λ _ e. e ≡ LineMemory };
 
-    fn from(_: AllocError) -> Refusal {
-        Refusal::OutOfMemory
+    fn from(_: AllocError) -> LineError {
+        LineError::OutOfMemory
     }
 }

@@ -4,7 +4,7 @@
 //! contracts see it as the record of its names and lines.
 #![tactic(auto)]
 
-mod book;
+mod script;
 mod content;
 mod cut;
 mod delta_text;
@@ -17,7 +17,7 @@ mod read;
 mod texts;
 mod words;
 
-pub use book::Script;
+pub use script::Script;
 pub use content::Content;
 pub use error::{LineFault, ScriptError};
 pub use line::{Count, ScriptLine};

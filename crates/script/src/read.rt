@@ -5,9 +5,9 @@ ghost use Rattle.script.specs.declared.content.Content.{Content};
 ghost use Rattle.script.specs.Script.{IsScriptOf, IsScriptCause};
 ghost use Rattle.script.specs.Next.{ReadsOn, IsStop};
 
-use crate::book::Script;
+use crate::script::Script;
 use crate::cut::{first_line, is_skipped, said};
-use crate::error::{LineFault, Refusal, ScriptError};
+use crate::error::{LineFault, LineError, ScriptError};
 use std::alloc::Global;
 use std::str;
 
@@ -43,19 +43,19 @@ pub fn read_script(alloc: Global, bytes: &[u8]) -> Result<Script, ScriptError>
                 script = longer;
                 rest = after;
             }
-            Err(Refusal::Fault(kind)) => return Err(ScriptError::At { line, kind }),
-            Err(Refusal::OutOfMemory) => return Err(ScriptError::OutOfMemory),
+            Err(LineError::Fault(kind)) => return Err(ScriptError::At { line, kind }),
+            Err(LineError::OutOfMemory) => return Err(ScriptError::OutOfMemory),
         }
     }
     Ok(script)
 }
 
 /// The script with one more line of bytes.
-fn with_line(alloc: Global, script: Script, line: &[u8]) -> Result<Script, Refusal>
+fn with_line(alloc: Global, script: Script, line: &[u8]) -> Result<Script, LineError>
     ensures { MatchResult result (ReadsOn line.now script) (IsStop line.now script) }
 {
     let Ok(line) = str::from_utf8(line) else {
-        return Err(Refusal::Fault(LineFault::NotUtf8));
+        return Err(LineError::Fault(LineFault::NotUtf8));
     };
     let text = said(line);
     if is_skipped(text) {

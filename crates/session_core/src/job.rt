@@ -10,7 +10,7 @@ ghost use Rattle.session_core.specs.Jobs.{HasAfter};
 
 use ex_machine::run;
 use ex_model::Bindings;
-use notebook::{Cell, CellId, Steps};
+use notebook::{Cell, CellId, FlowCells};
 use std::alloc::{AllocError, Global};
 use utf16_text::Text;
 
@@ -28,7 +28,7 @@ pub struct PlainJob {
 }
 
 /// The bindings after some cells, evaluated one after the other from no bindings.
-pub(crate) fn base_of(alloc: Global, cells: Steps<'_>) -> Result<Bindings, AllocError>
+pub(crate) fn base_of(alloc: Global, cells: FlowCells<'_>) -> Result<Bindings, AllocError>
     ensures { HasAfter (map passed (left cells.entry)) → IfOk result (λ b. After (map source_bytes (map passed (left cells.entry))) b) }
 {
     let mut bindings = Bindings::new(alloc);

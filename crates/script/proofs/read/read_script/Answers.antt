@@ -1,5 +1,5 @@
 use Rattle.std.proofs.Common.{◌≡◌, ◌+◌, [], true, subst, sym, rules}
-use Rattle.script.specs.declared.error.Refusal.TheVariants.{Fault}
+use Rattle.script.specs.declared.error.LineError.TheVariants.{Fault}
 use Rattle.script.specs.Lines.{lines}
 use Rattle.script.specs.Script.{IsScriptOf, IsFirstBad}
 use Rattle.script.specs.Next.{IsStop}

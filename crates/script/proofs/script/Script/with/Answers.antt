@@ -1,7 +1,7 @@
 use Rattle.script.specs.Words.{first_word, after_word}
 use Rattle.script.proofs.Following.{numbered-next}
 use Rattle.script.proofs.Posting.{postable-next}
-use Rattle.script.proofs.book.Script.with.Goals as goal
+use Rattle.script.proofs.script.Script.with.Goals as goal
 
 pub invariant_of-result : goal.invariant_of-result
 invariant_of-result c =

@@ -7,7 +7,7 @@ ghost use Rattle.script.specs.Words.{first_word, after_word};
 ghost use Rattle.script.specs.Next.{no_content, IsNext, IsUnfit, names_with};
 
 use crate::content::Content;
-use crate::error::{LineFault, Refusal};
+use crate::error::{LineFault, LineError};
 use crate::form::next_line;
 use crate::words::split_word;
 use plain_list::Items;
@@ -57,7 +57,7 @@ impl Script {
     }
 
     /// The script with the line of a text at its end.
-    pub(crate) fn with(self, alloc: Global, text: &str) -> Result<Script, Refusal>
+    pub(crate) fn with(self, alloc: Global, text: &str) -> Result<Script, LineError>
         ensures { MatchResult result (IsNext self (first_word text.now) (after_word text.now)) (IsUnfit self (first_word text.now) (after_word text.now)) }
     {
         let Script { content } = self;
@@ -67,13 +67,13 @@ impl Script {
 }
 
 /// The content with the line of a text at its end.
-fn content_with(alloc: Global, content: Content, text: &str) -> Result<Content, Refusal>
+fn content_with(alloc: Global, content: Content, text: &str) -> Result<Content, LineError>
     requires { IsNumbered content }
     ensures { MatchResult result (IsNext content (first_word text.now) (after_word text.now)) (IsUnfit content (first_word text.now) (after_word text.now)) }
 {
     let (word, rest) = split_word(text);
     let Some(line) = next_line(alloc, content.names.as_slice(), word, rest)? else {
-        return Err(Refusal::Fault(LineFault::Unbuilt));
+        return Err(LineError::Fault(LineFault::Unbuilt));
     };
     let Content { names, mut lines } = content;
     let names = names_with(alloc, names, line.client(), rest)?;

@@ -4,7 +4,7 @@ use Rattle.script.specs.Words.{first_word, after_word}
 use Rattle.script.specs.Line.{client_of}
 use Rattle.script.specs.Next.{IsNextLine, names_with}
 use Rattle.script.proofs.Following.{next-made}
-use Rattle.script.proofs.book.content_with.Goals as goal
+use Rattle.script.proofs.script.content_with.Goals as goal
 
 pub returns : goal.returns
 returns c =
