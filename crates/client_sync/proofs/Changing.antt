@@ -24,7 +24,8 @@ use Rattle.client_sync.specs.Client.{Client as Holder, Pending, pending_of, with
 use Rattle.client_sync.specs.Fits.{HasSource, FitsHere}
 use Rattle.client_sync.specs.Going.{ArePendingBelow, HasChanged, HasForgotten, IsOver, without_numbers}
 use Rattle.client_sync.specs.Revisions.{with_made, without_revisions}
-use Rattle.client_sync.specs.Stands.{Mirrors, TouchesMadeCells, HaveServerTexts, pending_in}
+use Rattle.client_sync.specs.Stands.{Mirrors, HaveServerTexts, pending_in}
+use Rattle.session_ops.specs.Born.{TouchesMadeCells}
 use Rattle.client_sync.specs.declared.client.Client.{Client}
 use Rattle.client_sync.specs.declared.pending.Unconfirmed.{Unconfirmed}
 use Rattle.client_sync.proofs.Accepting.{IsStill, still-call, changed-call, other-received}

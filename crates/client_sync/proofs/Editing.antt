@@ -18,7 +18,8 @@ use Rattle.client_sync.specs.Client.{Client as Holder, Pending, Done, EditTooLon
 use Rattle.client_sync.specs.Causes.{IsEditCause}
 use Rattle.client_sync.specs.Fits.{HasSource, FitsHere}
 use Rattle.client_sync.specs.Own.{IsOwnText, IsOwnFault}
-use Rattle.client_sync.specs.Stands.{Mirrors, HasEdits, HaveServerTexts, TouchesMadeCells, pending_in}
+use Rattle.client_sync.specs.Stands.{Mirrors, HasEdits, HaveServerTexts, pending_in}
+use Rattle.session_ops.specs.Born.{TouchesMadeCells}
 use Rattle.client_sync.specs.declared.client.Client.{Client}
 use Rattle.client_sync.specs.declared.edit_error.EditError.{EditError}
 use Rattle.client_sync.specs.declared.edit_error.EditError.TheVariants.{NoCell as NoCellError, EditTooLong as TooLongError, PastEnd, SplitsPair, OutOfMemory}

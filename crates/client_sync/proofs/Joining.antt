@@ -7,7 +7,8 @@ use Rattle.session_ops.specs.declared.snapshot.Snapshot.{Snapshot}
 use Rattle.session_ops.specs.State.{state}
 use Rattle.session_ops.specs.Snapshot.{HasRevisions, IsSnapshot}
 use Rattle.client_sync.specs.Client.{joined_client}
-use Rattle.client_sync.specs.Stands.{HaveServerTexts, Mirrors, TouchesMadeCells, pending_in}
+use Rattle.client_sync.specs.Stands.{HaveServerTexts, Mirrors, pending_in}
+use Rattle.session_ops.specs.Born.{TouchesMadeCells}
 use Rattle.client_sync.specs.declared.client.Client.{Client}
 use Rattle.client_sync.proofs.Holding.{note-stays}
 

@@ -25,7 +25,8 @@ use Rattle.client_sync.specs.Client.{Client as Holder, Pending, pending_of, afte
 use Rattle.client_sync.specs.Fits.{HasSource, FitsHere}
 use Rattle.client_sync.specs.Moving.{over_option, FitsCell, book_after, IsMovedOver}
 use Rattle.client_sync.specs.Revisions.{raised}
-use Rattle.client_sync.specs.Stands.{Mirrors, TouchesMadeCells, HasEdits, HaveServerTexts, IsNextEntry, IsOwnFlight}
+use Rattle.client_sync.specs.Stands.{Mirrors, HasEdits, HaveServerTexts, IsNextEntry, IsOwnFlight}
+use Rattle.session_ops.specs.Born.{TouchesMadeCells}
 use Rattle.client_sync.specs.declared.client.Client.{Client}
 use Rattle.client_sync.proofs.Books.{fused, same-each, live-apart, found-below, with-one-source}
 use Rattle.client_sync.proofs.Editing.{FitsOver, fits-over, fits-either}

@@ -14,6 +14,7 @@ use Rattle.session_ops.specs.declared.entry.Call.TheVariants.{Client as ByClient
 use Rattle.session_ops.specs.declared.entry.Reply.{Reply}
 use Rattle.session_ops.specs.declared.entry.Reply.TheVariants.{Applied}
 use Rattle.session_ops.specs.declared.entry.Entry.{Entry}
+use Rattle.session_ops.specs.Born.{TouchesMadeCells}
 use Rattle.session_ops.specs.State.{State, reply, revision}
 use Rattle.session_ops.specs.Snapshot.{HasRevisions}
 use Rattle.client_sync.specs.Client.{Client as Holder, Pending, pending_of, held, delivered}
@@ -60,10 +61,6 @@ pub record IsPendingAt (us : List Unconfirmed) (k at : ℕ) : Type 0 where
   pub number : here.cell ≡ k
   pub place : at ≡ length front
   pub first : pending_of k (map pending_in front) ≡ None
-
--- no delta was applied to a number that no cell has been given yet, as in each legal history
-abbrev pub TouchesMadeCells : State → Type 0
-TouchesMadeCells s = (cell : ℕ) → s.book.next_cell ≤ cell → revision s cell ≡ 0
 
 -- the client in memory stands for this one: its notebook is what this one holds, its revisions are those at the last delivery, all that is pending fits there, and it keeps the server's text of each cell that has something pending
 pub record Mirrors (n0 : Parts) (c : Client) (m : Holder) : Type 0 where

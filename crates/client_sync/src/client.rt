@@ -22,7 +22,8 @@ ghost use Rattle.client_sync.specs.Moving.{over_pending, over_option, FitsCell, 
 ghost use Rattle.client_sync.specs.Revisions.{raised, with_made, without_revision};
 ghost use Rattle.client_sync.specs.Arrivals.{arriving, arriving_in};
 ghost use Rattle.client_sync.specs.Causes.{IsEditCause, IsPostCause};
-ghost use Rattle.client_sync.specs.Stands.{Mirrors, TouchesMadeCells, HaveServerTexts, number_in, IsPostable, IsNextEntry, HasTaken, IsPendingOf, IsViewOf, HasEdits, IsPendingAt, in_flight, edit_message, pending_in};
+ghost use Rattle.client_sync.specs.Stands.{Mirrors, HaveServerTexts, number_in, IsPostable, IsNextEntry, HasTaken, IsPendingOf, IsViewOf, HasEdits, IsPendingAt, in_flight, edit_message, pending_in};
+ghost use Rattle.session_ops.specs.Born.{TouchesMadeCells};
 
 use crate::arrival::{Arrival, accepted_change, applied_by};
 use crate::changes::gone_numbers;

@@ -10,7 +10,7 @@ use Rattle.session_ops.specs.declared.entry.Reply.{Reply}
 use Rattle.session_ops.specs.declared.entry.Reply.TheVariants.{Applied}
 use Rattle.session_ops.specs.declared.entry.Entry.{Entry}
 use Rattle.session_ops.specs.State.{State, Job, Legal, opening, state, state_from, after, reply, HasReplies, jobs_after}
-use Rattle.client_sync.specs.Stands.{TouchesMadeCells}
+use Rattle.session_ops.specs.Born.{TouchesMadeCells}
 use Rattle.world.specs.Applied.{applied_by, applied_in}
 use Rattle.world.proofs.Changing.{IsGrown, call-grown, live-below}
 use Rattle.world.proofs.Moving.{IsTaken, applied-taken, from-grown, from-taken}

@@ -13,7 +13,8 @@ use Rattle.session_ops.specs.declared.entry.Entry.{Entry}
 use Rattle.session_ops.specs.State.{state, reply}
 use Rattle.client_sync.specs.Client.{Client as Holder, Edited, Done, NoCell, EditTooLong, Unfit, edited, received_entry, joined_client, with_message, client_of, reported, without_client}
 use Rattle.client_sync.specs.declared.client.Client.{Client}
-use Rattle.client_sync.specs.Stands.{Mirrors, IsNextEntry, TouchesMadeCells}
+use Rattle.client_sync.specs.Stands.{Mirrors, IsNextEntry}
+use Rattle.session_ops.specs.Born.{TouchesMadeCells}
 use Rattle.session_ops.specs.Structure.{is_postable}
 use Rattle.session_core.specs.declared.session.Session.{Session}
 use Rattle.notebook.specs.Rules.{IsNotebook}
