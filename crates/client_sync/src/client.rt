@@ -16,7 +16,6 @@ ghost use Rattle.client_sync.specs.Going.{ArePendingBelow, HasChanged, HasForgot
 ghost use Rattle.client_sync.specs.Own.{IsOwnText, IsOwnFault, source_of};
 ghost use Rattle.client_sync.specs.declared.pending.Unconfirmed.{Unconfirmed};
 ghost use Rattle.delta.specs.Moves.{FitsText, composed, transformed, text_after};
-ghost use Rattle.delta.specs.Sides.{is_right};
 ghost use Rattle.notebook.specs.declared.parts.Cell.{Cell};
 ghost use Rattle.client_sync.specs.Moving.{over_pending, over_option, FitsCell, book_after, IsMovedOver};
 ghost use Rattle.client_sync.specs.Revisions.{raised, with_made, without_revision};
@@ -32,8 +31,8 @@ use crate::outbox::Outbox;
 use crate::pending::{PendingEdits, Unconfirmed, place_of};
 use crate::post_error::PostError;
 use crate::revs::{add_made, raise, remove, rev_in};
-use delta::{ApplyError, Delta, Side, compose, have_room, transform};
-use delta_laws::nothing;
+use delta::{ApplyError, Delta, Side};
+use delta_laws::{composed, nothing, transformed};
 use notebook::{CellId, Change, Notebook};
 use plain_list::Items;
 use session_ops::{Entry, Op, Snapshot};
@@ -194,7 +193,7 @@ impl Client {
         ensures joined { (front back : List Unconfirmed) (here : Unconfirmed) → self.old.pending ≡ front ++ here ∷ back → at ≡ length front → OnOk result (self.new ≡ record self.old { pending = front ++ record here { buffer = composed here.buffer delta.now } ∷ back }) }
         ensures err { OnErr result (self.new ≡ self.old) }
     {
-        let buffer = joined(self.alloc, &self.pending.as_slice()[at].buffer, delta)?;
+        let buffer = composed(self.alloc, &self.pending.as_slice()[at].buffer, delta)?;
         self.pending.item_mut(at).buffer = buffer;
         Ok(())
     }
@@ -526,16 +525,6 @@ impl Client {
     }
 }
 
-/// First `a` and then `b`, as one delta. No machine holds deltas that have no room beside each other.
-fn joined(alloc: Global, a: &Delta, b: &Delta) -> Result<Delta, AllocError>
-    ensures { IfOk result (λ d. d ≡ composed a.now b.now) }
-{
-    if !have_room(a, b) {
-        return Err(AllocError);
-    }
-    compose(alloc, a, b)
-}
-
 /// A notebook keeps the rules.
 fn keeps_rules(book: &Notebook)
     ensures { IsNotebook book.now }
@@ -558,10 +547,10 @@ fn move_over(alloc: Global, edits: &mut Unconfirmed, delta: &Delta) -> Result<De
     ensures moved { IfOk result (λ x. (x ≡ over_pending delta.now (pending_in edits.old)) × (edits.new ≡ record edits.old { server = edits.new.server; flight = transformed false delta.now edits.old.flight; buffer = transformed false (transformed true edits.old.flight delta.now) edits.old.buffer })) }
     ensures server { FitsText delta.now edits.old.server → IfOk result (λ _. edits.new.server ≡ text_after delta.now edits.old.server) }
 {
-    let over_flight = moved(alloc, &edits.flight, delta, Side::Right)?;
-    let flight = moved(alloc, delta, &edits.flight, Side::Left)?;
-    let shown = moved(alloc, &edits.buffer, &over_flight, Side::Right)?;
-    let buffer = moved(alloc, &over_flight, &edits.buffer, Side::Left)?;
+    let over_flight = transformed(alloc, &edits.flight, delta, Side::Right)?;
+    let flight = transformed(alloc, delta, &edits.flight, Side::Left)?;
+    let shown = transformed(alloc, &edits.buffer, &over_flight, Side::Right)?;
+    let buffer = transformed(alloc, &over_flight, &edits.buffer, Side::Left)?;
     move_text(alloc, &mut edits.server, delta)?;
     edits.flight = flight;
     edits.buffer = buffer;
@@ -580,14 +569,4 @@ fn move_text(alloc: Global, text: &mut Text, delta: &Delta) -> Result<(), AllocE
         Err(ApplyError::OutOfMemory) => Err(AllocError),
         Err(ApplyError::PastEnd { .. } | ApplyError::SplitsPair { .. }) => Ok(()),
     }
-}
-
-/// `right` as it goes after `left`. No machine holds deltas that have no room beside each other.
-fn moved(alloc: Global, left: &Delta, right: &Delta, first: Side) -> Result<Delta, AllocError>
-    ensures { IfOk result (λ d. d ≡ transformed (is_right first) left.now right.now) }
-{
-    if !have_room(left, right) {
-        return Err(AllocError);
-    }
-    transform(alloc, left, right, first)
 }

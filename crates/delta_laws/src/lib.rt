@@ -12,12 +12,16 @@ ghost use Rattle.std.specs.Prelude.{◌≡◌, ◌<◌, ◌↔◌, [], true, fal
 ghost use Rattle.utf16_text.specs.Units.{unit_count};
 ghost use Rattle.delta.specs.Canonical.{is_proper, is_retain};
 ghost use Rattle.delta.specs.Steps.{reach_of};
-ghost use Rattle.delta.specs.Moves.{FitsText, HaveRoom, text_after, composed, transformed};
+ghost use Rattle.delta.specs.Moves.{FitsText, text_after, composed, transformed};
 ghost use Rattle.delta_laws.specs.Ends.{is_felt, ends_felt};
 ghost use Rattle.delta_laws.specs.Laws.{IsNothing};
 ghost use Rattle.delta_laws.specs.Pairs.{IsBothOrders, IsInTwo};
 
-use delta::{ApplyError, Delta, Side, Step, compose, have_room, transform};
+mod room;
+
+pub use room::{composed, transformed};
+
+use delta::{ApplyError, Delta, Side, Step};
 use std::alloc::{AllocError, Global};
 use utf16_text::{Text, unit_len};
 
@@ -35,9 +39,6 @@ pub fn both_orders(alloc: Global, text: &Text, a: &Delta, b: &Delta) -> Result<P
     requires b_fits { FitsText b.now text.now }
     ensures { IfOk result (IsBothOrders text.now a.now b.now) }
 {
-    if !have_room(a, b) {
-        return Err(AllocError);
-    }
     let one = a_first(alloc, text, a, b)?;
     let other = b_first(alloc, text, a, b)?;
     Ok(Pair { one, other })
@@ -49,9 +50,6 @@ pub fn in_two(alloc: Global, text: &Text, a: &Delta, b: &Delta) -> Result<Pair, 
     requires b_fits { FitsText b.now (text_after a.now text.now) }
     ensures { IfOk result (IsInTwo text.now a.now b.now) }
 {
-    if !have_room(a, b) {
-        return Err(AllocError);
-    }
     let after = applied(alloc, a, text)?;
     let one = applied(alloc, b, &after)?;
     let other = applied_at_once(alloc, text, a, b)?;
@@ -104,32 +102,29 @@ fn is_felt(step: &Step) -> bool
 fn a_first(alloc: Global, text: &Text, a: &Delta, b: &Delta) -> Result<Text, AllocError>
     requires a_fits { FitsText a.now text.now }
     requires b_fits { FitsText b.now text.now }
-    requires room { HaveRoom a.now b.now }
     ensures { IfOk result (λ t. t ≡ text_after (transformed false a.now b.now) (text_after a.now text.now)) }
 {
     let after = applied(alloc, a, text)?;
-    let moved = transform(alloc, a, b, Side::Left)?;
+    let moved = transformed(alloc, a, b, Side::Left)?;
     applied(alloc, &moved, &after)
 }
 
 fn b_first(alloc: Global, text: &Text, a: &Delta, b: &Delta) -> Result<Text, AllocError>
     requires a_fits { FitsText a.now text.now }
     requires b_fits { FitsText b.now text.now }
-    requires room { HaveRoom a.now b.now }
     ensures { IfOk result (λ t. t ≡ text_after (transformed true b.now a.now) (text_after b.now text.now)) }
 {
     let after = applied(alloc, b, text)?;
-    let moved = transform(alloc, b, a, Side::Right)?;
+    let moved = transformed(alloc, b, a, Side::Right)?;
     applied(alloc, &moved, &after)
 }
 
 fn applied_at_once(alloc: Global, text: &Text, a: &Delta, b: &Delta) -> Result<Text, AllocError>
     requires a_fits { FitsText a.now text.now }
     requires b_fits { FitsText b.now (text_after a.now text.now) }
-    requires room { HaveRoom a.now b.now }
     ensures { IfOk result (λ t. t ≡ text_after (composed a.now b.now) text.now) }
 {
-    let both = compose(alloc, a, b)?;
+    let both = composed(alloc, a, b)?;
     applied(alloc, &both, text)
 }
 
