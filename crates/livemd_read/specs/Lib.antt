@@ -1,3 +1,4 @@
 pub mod Causes
+pub mod Reads
 pub mod Resume
 pub mod Views

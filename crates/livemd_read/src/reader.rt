@@ -1,7 +1,7 @@
 //! From bytes to a notebook.
 ghost use Rattle.std.specs.Prelude.{OnOk, MatchResult};
 ghost use Rattle.livemd_format.specs.Accepts.{IsAccepted};
-ghost use Rattle.livemd_format.specs.Reads.{Reads};
+ghost use Rattle.livemd_read.specs.Reads.{Reads};
 ghost use Rattle.livemd_read.specs.Causes.{IsBookCause};
 
 use crate::build::built;

@@ -1,3 +1,4 @@
+pub mod Book
 pub mod Cells
 pub mod Pages
 pub mod Passages

@@ -3,8 +3,7 @@ ghost use Rattle.std.specs.Prelude.{◌≡◌, ℕ, List, [], ◌∷◌, IfOk, s
 ghost use Rattle.livemd_format.specs.Accepts.{IsAccepted, IsSmall};
 ghost use Rattle.livemd_format.specs.Reads.{Reads};
 ghost use Rattle.livemd_format.specs.RoundTrip.{IsPlain};
-ghost use Rattle.livemd_format.specs.Tidy.{tidied};
-ghost use Rattle.livemd_format.specs.Write.{text_of};
+ghost use Rattle.livemd_write.specs.Book.{tidied, text_of};
 
 use crate::page::push_tidied;
 use crate::tidy_up::tidied;
