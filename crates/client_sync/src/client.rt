@@ -33,18 +33,13 @@ use crate::post_error::PostError;
 use crate::revs::{add_made, raise, remove, rev_in};
 use delta::{ApplyError, Delta, Side};
 use delta_laws::{composed, nothing, transformed};
+use limits::MOST_INSERTED;
 use notebook::{CellId, Change, Notebook};
 use plain_list::Items;
 use session_ops::{Entry, Op, Snapshot};
 use std::alloc::{AllocError, Global};
 use std::mem;
 use utf16_text::Text;
-
-/// The most UTF-16 units that an edit may insert.
-const MOST_INSERTED: u64 = 65_536;
-
-/// No notebook has as many cells or sections in its life.
-const MOST_NUMBERS: u64 = 1 << 63;
 
 /// A notebook as of the client's last delivery, with the client's own unconfirmed edits done to it; and
 /// the messages that the server hasn't taken yet.
@@ -290,7 +285,7 @@ impl Client {
     fn take_change(&mut self, asked: Change) -> Result<(), AllocError>
         ensures { (n n' : Parts) (ps : List Pending) (made : Changed) → IsOver n self.old ps → ArePendingBelow n.next_cell ps → change n asked ≡ Makes n' made → OnOk result (HasChanged n n' self.old self.new (without_numbers (map cell_number (gone_cells n asked)) ps) (map cell_number (gone_cells n asked)) made) }
     {
-        if !may_grow(&self.book) {
+        if !self.book.has_numbers() {
             return Err(AllocError);
         }
         let gone = gone_numbers(self.alloc, &self.book, &asked)?;
@@ -530,15 +525,6 @@ fn keeps_rules(book: &Notebook)
     ensures { IsNotebook book.now }
 {
     book.parts();
-}
-
-/// Whether a notebook has numbers left for one more cell and one more section, as each that a machine
-/// holds has.
-fn may_grow(book: &Notebook) -> bool
-    ensures { IsTrue result ↔ ((book.now.next_cell < 2 ^ 63) × (book.now.next_section < 2 ^ 63)) }
-{
-    let parts = book.parts();
-    parts.next_cell < MOST_NUMBERS && parts.next_section < MOST_NUMBERS
 }
 
 /// Moves pending edits, and the server's text under them, over another's delta, which goes first in

@@ -7,6 +7,7 @@ ghost use Rattle.driver.specs.Answers.{BytesAreBook, BytesAreScript, IsBookAnswe
 use crate::outcome::{Outcome, RunFault};
 use crate::play::{Played, play};
 use book_outside::{Gate, Shelf, ShelfError, Sink, SinkError};
+use limits::MOST_FILE_BYTES;
 use livemd_read::{BookError, Read, read};
 use livemd_write::write;
 use notebook::Notebook;
@@ -16,7 +17,7 @@ use std::sync::Wait;
 use std::thread::Threads;
 
 /// At most this many bytes of a book or a script are read: one more than either may have.
-const MOST_BYTES: u64 = 8_388_609;
+const MOST_BYTES: u64 = MOST_FILE_BYTES as u64 + 1;
 
 /// Runs the program on the words of the command line. `play BOOK SCRIPT` plays the script of that name
 /// over the book of that name, and writes the transcript to the sink; `format BOOK` is

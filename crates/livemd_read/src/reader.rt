@@ -9,26 +9,15 @@ use crate::count::{cell_count, code_cell_count, section_count};
 use crate::settle::settle;
 use crate::take::read_items;
 use crate::types::{BookError, Read};
+use limits::{MOST_CELLS, MOST_CODE_CELLS, MOST_FILE_BYTES, MOST_SECTIONS};
 use std::alloc::Global;
-
-/// How many bytes a book has at most.
-const MOST_BYTES: usize = 8_388_608;
-
-/// How many sections a notebook has at most.
-const MOST_SECTIONS: usize = 1_000;
-
-/// How many cells the sections have at most.
-const MOST_CELLS: usize = 4_000;
-
-/// How many code cells the sections have at most.
-const MOST_CODE_CELLS: usize = 1_000;
 
 /// Reads a book. A refusal names the first cause in the order of [`BookError`].
 pub fn read(alloc: Global, bytes: &[u8]) -> Result<Read, BookError>
     ensures read { MatchResult result (λ r. Reads bytes.now r.notebook r.notices) (IsBookCause bytes.now) }
     ensures accepted { OnOk result (IsAccepted bytes.now) }
 {
-    if bytes.len() > MOST_BYTES {
+    if bytes.len() > MOST_FILE_BYTES {
         return Err(BookError::TooLarge);
     }
     let text = match str::from_utf8(bytes) {

@@ -17,6 +17,7 @@ use crate::edits::make;
 use crate::flow::{lane_among, numbers_up_to, push_branch, push_main};
 use crate::parts::{Cell, CellId, Kind, Parts};
 use crate::states::{Lane, PathError};
+use limits::NUMBERS_END;
 use plain_list::Items;
 use std::alloc::{AllocError, Global};
 use std::marker::Model;
@@ -109,6 +110,14 @@ impl Notebook {
         let sections = self.parts.sections.as_slice();
         let place = place_of(sections, cell)?;
         Some(&sections[place.section].cells.as_slice()[place.cell])
+    }
+
+    /// Whether there are numbers for one more cell and one more section, as in each notebook that a
+    /// machine holds. It takes no memory.
+    pub fn has_numbers(&self) -> bool
+        ensures { IsTrue result ↔ ((self.now.next_cell < 2 ^ 63) × (self.now.next_section < 2 ^ 63)) }
+    {
+        self.parts.next_cell < NUMBERS_END && self.parts.next_section < NUMBERS_END
     }
 
     /// Makes one change of the structure, or tells the first cause that refuses it; then, and where

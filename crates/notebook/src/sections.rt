@@ -9,15 +9,7 @@ ghost use Rattle.notebook.specs.Change.{lacks, branches_from, has_branches, is_f
 ghost use Rattle.notebook.specs.Places.{IsSectionAt, AreOrdered};
 
 use crate::parts::{Cell, Kind, Parts, Section, SectionId};
-
-/// Most sections of a notebook.
-pub const MOST_SECTIONS: usize = 1000;
-
-/// Most cells of a notebook's sections.
-const MOST_CELLS: usize = 4000;
-
-/// Most code cells among them.
-const MOST_CODE_CELLS: usize = 1000;
+use limits::{MOST_CELLS, MOST_CODE_CELLS};
 
 /// The place of the first of some sections that has the number.
 pub fn section_at(sections: &[Section], id: SectionId) -> Option<usize>

@@ -5,14 +5,12 @@ ghost use Rattle.script.specs.declared.content.Content.{Content};
 ghost use Rattle.script.specs.Script.{IsScriptOf, IsScriptCause};
 ghost use Rattle.script.specs.Next.{ReadsOn, IsStop};
 
-use crate::script::Script;
 use crate::cut::{first_line, is_skipped, said};
-use crate::error::{LineFault, LineError, ScriptError};
+use crate::error::{LineError, LineFault, ScriptError};
+use crate::script::Script;
+use limits::MOST_FILE_BYTES;
 use std::alloc::Global;
 use std::str;
-
-/// How many bytes a script may have.
-const MAX_BYTES: usize = 8_388_608;
 
 /// Reads a script from its bytes: UTF-8 text in lines that end with LF. CRs at a line's end and
 /// then outer spaces and tabs are ignored; an empty line and one that begins with `#` are skipped.
@@ -29,7 +27,7 @@ pub fn read_script(alloc: Global, bytes: &[u8]) -> Result<Script, ScriptError>
     ensures single { IfOk result (λ script. (other : Content) → IsScriptOf bytes.now other → other ≡ script) }
     ensures none { IfErr result (λ error. error ≢ ScriptMemory → (other : Content) → ¬ (IsScriptOf bytes.now other)) }
 {
-    if bytes.len() > MAX_BYTES {
+    if bytes.len() > MOST_FILE_BYTES {
         return Err(ScriptError::TooLarge);
     }
     let mut script = Script::new(alloc);

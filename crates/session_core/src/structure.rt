@@ -19,9 +19,6 @@ use session_ops::{Call, Entry, Op, Refusal, Reply};
 use std::alloc::{AllocError, Global};
 use utf16_text::Text;
 
-/// The numbers of cells and sections stay below this one; no machine makes so many.
-const NUMBERS_END: u64 = 9_223_372_036_854_775_808;
-
 impl Session {
     /// Changes the notebook's structure, as the operation asks.
     pub(crate) fn restructure(
@@ -68,7 +65,7 @@ impl Session {
         ensures history { history_of self.new ≡ history_of self.old }
         ensures made { (s : State) → Holds s self.old → IsOrderly s → MatchResult result (HasMade s change self.new) (HasNotMade s change self.new) }
     {
-        if !has_numbers(self.book.parts()) {
+        if !self.book.has_numbers() {
             return Err(NoteError::OutOfMemory);
         }
         let source = new_source(self.alloc, self.book.parts(), &change)?;
@@ -131,14 +128,6 @@ fn takes_away(change: &Change) -> bool
         change,
         Change::DeleteSection { .. } | Change::DeleteCell { .. }
     )
-}
-
-/// Whether there are numbers for another cell and another section.
-fn has_numbers(book: &Parts) -> bool
-    ensures cells { result ≡ true → book.now.next_cell < 2 ^ 63 }
-    ensures sections { result ≡ true → book.now.next_section < 2 ^ 63 }
-{
-    book.next_cell < NUMBERS_END && book.next_section < NUMBERS_END
 }
 
 /// The source with which the cell begins that a change makes, if it makes one.
