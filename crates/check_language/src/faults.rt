@@ -12,10 +12,19 @@ fn is_printed(alloc: Global, fault: &Fault, wanted: &str) -> Option<bool> {
     Some(text.as_str() == wanted)
 }
 
-/// Whether a fault and its copy are printed as this.
-fn says(alloc: Global, fault: Fault, wanted: &str) -> Option<bool> {
+/// Whether a fault's copy is printed as this.
+fn copy_is_printed(alloc: Global, fault: &Fault, wanted: &str) -> Option<bool> {
     let copy = fault.copy().ok()?;
-    Some(is_printed(alloc, &fault, wanted)? && is_printed(alloc, &copy, wanted)?)
+    is_printed(alloc, &copy, wanted)
+}
+
+/// Whether a fault and its copy are printed as this.
+fn are_printed(alloc: Global, fault: &Fault, wanted: &str) -> Option<bool> {
+    Some(is_printed(alloc, fault, wanted)? && copy_is_printed(alloc, fault, wanted)?)
+}
+
+fn says(alloc: Global, fault: Fault, wanted: &str) -> Option<bool> {
+    are_printed(alloc, &fault, wanted)
 }
 
 pub fn words_alone(alloc: Global) -> Option<usize> {
