@@ -47,7 +47,7 @@ use Rattle.driver.specs.Headline.{AllOfRun, AllAnswered, AllFair, IsFair, IsFoll
 use Rattle.driver.specs.Clients.{AreMirrored, AreApart}
 use Rattle.driver.specs.Standing.{Stands, HasDone, HasPlayed, HasAsked, HasAdmitted, world_of, entries_of, turns_of}
 use Rattle.driver.specs.declared.player.Player.{Player}
-use Rattle.driver.proofs.Marks.{marks-longer, turns-made, run-push, asked-push, answered-more, fair-push, same-call}
+use Rattle.driver.proofs.Marks.{marks-longer, turns-made, run-push, asked-push, helped-push, answered-more, fair-push, same-call}
 use Rattle.driver.proofs.Placing.{mirrored-append, apart-without}
 use Rattle.driver.proofs.Readying.{ready-called}
 
@@ -167,6 +167,7 @@ pub record Grew (g : Game) (p p' : Player) (s : Stage) (n : ℕ) (op : Op) (answ
   pub answered : AllAnswered (entries_of p')
   pub ready : TakeReadyLanes g.opening 1 [] (entries_of p')
   pub asked : s.asked ++ ByClient n op ∷ [] ≡ map call_of (entries_by (entries_of p') 0)
+  pub helped : s.helped ≡ entries_by (entries_of p') 1
   pub history : entries_of p' ≡ (called (world_of g.opening (entries_of p) s.clients) (ByClient n op)).history
 
 pub grew : (g : Game) (p p' : Player) (s : Stage) (n : ℕ) (op : Op) (answer : Reply) → Stands g p s → HasAnswered g.opening 0 (ByClient n op) p.session p'.session answer → p'.marks ≡ p.marks → Grew g p p' s n op answer
@@ -182,6 +183,7 @@ grew g p p' s n op answer st ans em =
       answered = subst AllAnswered (sym ans.history) (answered-more h e st.answered (subst (λ a. IsFollowed a []) (sym ans.right) (not-followed (reply (state g.opening h) call) [] (client-starts (state g.opening h) n op))));
       ready = subst (TakeReadyLanes g.opening 1 []) (sym ans.history) (ready-called g.opening 1 h 0 n op answer st.ready);
       asked = ap (λ cs. cs ++ call ∷ []) st.asked ∙ (sym (asked-push h e refl) ∙ ap (λ x. map call_of (entries_by x 0)) (sym ans.history));
+      helped = st.helped ∙ (sym (helped-push h e refl) ∙ ap (λ x. entries_by x 1) (sym ans.history));
       history = ans.history ∙ ap (λ a. h ++ entry_of 0 call a ∷ []) ans.right;
     }
 
@@ -235,12 +237,12 @@ none-joined n0 h n (c ∷ cs) a e =
 pub called-done : (g : Game) (act : Stage → Option Stage) (p p' : Player) (s : Stage) (n : ℕ) (op : Op) (answer : Reply) (cs : List Holder) (sent : List Sent) (lines : List (List ℕ)) (before out : List ℕ) → Stands g p s
     → HasAnswered g.opening 0 (ByClient n op) p.session p'.session answer → p'.marks ≡ p.marks → AreMirrored g.opening p'.clients.items cs → IsWhole (world_of g.opening (entries_of p') cs) → AreHonest (world_of g.opening (entries_of p') cs)
     → AreApart (map number_of cs) → AllFair g.opening sent
-    → ((rest : List Turn) → act (record s { turns = Made (entries_of p) (entry_of 0 (ByClient n op) answer) ∷ rest }) ≡ Some (say lines (record s { turns = rest; clients = cs; asked = s.asked ++ ByClient n op ∷ []; sent = sent })))
+    → ((rest : List Turn) → act (record s { turns = Made (entries_of p) (entry_of 0 (ByClient n op) answer) ∷ rest }) ≡ Some (say lines (record s { turns = rest; seen = entries_of p ++ entry_of 0 (ByClient n op) answer ∷ []; clients = cs; asked = s.asked ++ ByClient n op ∷ []; sent = sent })))
     → out ≡ before ++ as_text lines → HasDone g act p p' s before out
 called-done g act p p' s n op answer cs sent lines before out st ans em mir whole honest apart fair acts printed =
     let gr : Grew g p p' s n op answer = grew g p p' s n op answer st ans em in
     record {
-      stage = say lines (record s { turns = []; clients = cs; asked = s.asked ++ ByClient n op ∷ []; sent = sent });
+      stage = say lines (record s { turns = []; seen = entries_of p ++ entry_of 0 (ByClient n op) answer ∷ []; clients = cs; asked = s.asked ++ ByClient n op ∷ []; sent = sent });
       more = Made (entries_of p) (entry_of 0 (ByClient n op) answer) ∷ [];
       grown = gr.turns;
       acts = acts;
@@ -248,12 +250,14 @@ called-done g act p p' s n op answer cs sent lines before out st ans em mir whol
           record {
             session = ans.session;
             used = refl;
+            seen = sym ans.history;
             marks = gr.marks;
             run = gr.run;
             answered = gr.answered;
             ready = gr.ready;
             fair = fair;
             asked = gr.asked;
+            helped = gr.helped;
             whole = whole;
             honest = honest;
             apart = apart;
@@ -318,7 +322,7 @@ join-refused-played g p p' s n answer before out st other ans em ec printed =
     (subst (λ y. IsWhole (world_of g.opening y s.clients)) (sym grown) (raw-join-whole w n st.whole))
     (subst (λ y. AreHonest (world_of g.opening y s.clients)) (sym grown) (raw-join-honest w n st.whole st.honest))
     st.apart st.fair
-    (λ rest. rw (same-call n Joins) (ap Some (joined-else g n (entries_of p ++ entry_of 0 (ByClient n Joins) answer ∷ []) (record s { turns = rest; asked = s.asked ++ ByClient n Joins ∷ [] }) answer other))) printed
+    (λ rest. rw (same-call n Joins) (ap Some (joined-else g n (entries_of p ++ entry_of 0 (ByClient n Joins) answer ∷ []) (record s { turns = rest; seen = entries_of p ++ entry_of 0 (ByClient n Joins) answer ∷ []; asked = s.asked ++ ByClient n Joins ∷ [] }) answer other))) printed
 
 -- leave
 pub leave-played : (g : Game) (p p' : Player) (s : Stage) (n : ℕ) (answer : Reply) (before out : List ℕ) → Stands g p s → HasAnswered g.opening 0 (ByClient n Leaves) p.session p'.session answer → p'.marks ≡ p.marks → AreMirrored g.opening p'.clients.items (without_client n s.clients)
@@ -351,7 +355,7 @@ raw-join-played g p p' s n answer lines before out st ans em ec says printed =
     called-done g (play_line g (RawJoin n)) p p' s n Joins answer s.clients s.sent lines before out st ans em (subst (λ v. AreMirrored g.opening v.items s.clients) (sym ec) st.mirrored)
     (subst (λ y. IsWhole (world_of g.opening y s.clients)) (sym grown) (raw-join-whole w n st.whole))
     (subst (λ y. AreHonest (world_of g.opening y s.clients)) (sym grown) (raw-join-honest w n st.whole st.honest))
-    st.apart st.fair (λ rest. rw (same-call n Joins) (ap Some (says (record s { turns = rest; asked = s.asked ++ ByClient n Joins ∷ [] })))) printed
+    st.apart st.fair (λ rest. rw (same-call n Joins) (ap Some (says (record s { turns = rest; seen = entries_of p ++ entry_of 0 (ByClient n Joins) answer ∷ []; asked = s.asked ++ ByClient n Joins ∷ [] })))) printed
 
 pub raw-join-accepted : (g : Game) (p p' : Player) (s : Stage) (n : ℕ) (name before out : List ℕ) (h : List Entry) → name ≡ name_of g n → Stands g p s → HasAnswered g.opening 0 (ByClient n Joins) p.session p'.session Accepted → p'.marks ≡ p.marks → p'.clients ≡ p.clients
     → h ≡ entries_of p' → out ≡ before ++ as_text (raw_joined_words name (length h) ∷ []) → HasPlayed g (RawJoin n) p p' s before out

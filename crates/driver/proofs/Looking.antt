@@ -1,11 +1,13 @@
--- Lines that look at the history: recv, and the rounds of sync.
+-- Lines that look at the history: recv, the rounds of sync, cells and book.
 use Rattle.std.proofs.Common.{◌≡◌, ◌≢◌, ℕ, ◌≤◌, ◌+◌, ◌-◌, zero, suc, Bool, true, false, if◌then◌else◌, List, [], ◌∷◌, ◌++◌, length, map, take, drop, Option, Some, refl, sym, ap, subst, ◌∙◌, arith, append_assoc}
 use Rattle.std.specs.Prelude.{slice_set}
 use Rattle.std.proofs.lemmas.List.{append-nil, length-append}
 use Rattle.session_ops.specs.declared.entry.Entry.{Entry}
 use Rattle.std.specs.List.{AllByRecursion}
-use Rattle.session_ops.specs.State.{entries_by}
+use Rattle.session_ops.specs.State.{state, entries_by}
 use Rattle.session_core.specs.Session.{IsSession, history_of}
+use Rattle.livemd_format.specs.Tidy.{tidied}
+use Rattle.livemd_format.specs.Write.{text_of}
 use Rattle.client_sync.specs.Client.{Client as Holder, received, put_client}
 use Rattle.client_sync.specs.Stands.{Mirrors}
 use Rattle.client_sync.specs.declared.client.Client.{Client}
@@ -16,11 +18,11 @@ use Rattle.world.proofs.Clients.{put-numbers}
 use Rattle.world.proofs.Standing.{put-whole}
 use Rattle.world.proofs.Honest.{put-honest, honest-joined}
 use Rattle.transcript.specs.Texts.{as_text}
-use Rattle.script.specs.declared.line.ScriptLine.TheVariants.{Recv, Sync}
+use Rattle.script.specs.declared.line.ScriptLine.TheVariants.{Recv, Sync, Cells, Book}
 use Rattle.script.specs.declared.line.Count.{Count}
 use Rattle.driver.specs.Lines.{received_words, sync_words}
 use Rattle.driver.specs.Turns.{Turn, Looked, turns_from, AreMarks}
-use Rattle.driver.specs.Player.{Game, Stage, Marked, or_none, looks, say, with_clients, name_of, how_many, unseen, receive_some, receive_all, send_each, round, rounds, all_sent}
+use Rattle.driver.specs.Player.{Game, Stage, Marked, or_none, looks, say, say_text, states_at, with_clients, name_of, how_many, unseen, receive_some, receive_all, send_each, round, rounds, all_sent}
 use Rattle.driver.specs.Headline.{AllOfRun, AllAnswered, AllFair, TakeReadyLanes, call_of}
 use Rattle.driver.specs.Clients.{AreMirrored, AreApart, IsAt, HasReceived, IsLawful}
 use Rattle.driver.specs.Standing.{Stands, HasDone, HasPlayed, HasRound, HasReceivedSome, world_of, entries_of, turns_of}
@@ -30,19 +32,21 @@ use Rattle.driver.proofs.Still.{own-honest}
 use Rattle.driver.proofs.Receiving.{many-honest, received-number, each-honest, each-whole, each-number}
 
 -- the player after a look, with other clients
-pub look-stands : (g : Game) (p p' : Player) (s t : Stage) → Stands g p s → p'.session ≡ p.session → p'.marks ≡ p.marks ++ length (entries_of p) ∷ [] → t.turns ≡ [] → t.asked ≡ s.asked → t.sent ≡ s.sent → IsWhole (world_of g.opening (entries_of p) t.clients) → AreHonest (world_of g.opening (entries_of p) t.clients)
+pub look-stands : (g : Game) (p p' : Player) (s t : Stage) → Stands g p s → p'.session ≡ p.session → p'.marks ≡ p.marks ++ length (entries_of p) ∷ [] → t.turns ≡ [] → t.seen ≡ entries_of p → t.asked ≡ s.asked → t.helped ≡ s.helped → t.sent ≡ s.sent → IsWhole (world_of g.opening (entries_of p) t.clients) → AreHonest (world_of g.opening (entries_of p) t.clients)
     → AreApart (map number_of t.clients) → AreMirrored g.opening p'.clients.items t.clients → Stands g p' t
-look-stands g p p' s t st es em used asked same_sent whole honest apart mir =
+look-stands g p p' s t st es em used seen asked helped same_sent whole honest apart mir =
     let eh : entries_of p' ≡ entries_of p = ap history_of es in
     record {
       session = subst (IsSession g.opening) (sym es) st.session;
       used = used;
+      seen = seen ∙ sym eh;
       marks = subst (λ ms. AreMarks 0 ms (length (entries_of p'))) (sym em) (subst (λ x. AreMarks 0 (p.marks ++ length (entries_of p) ∷ []) (length x)) (sym eh) (marks-push 0 p.marks (length (entries_of p)) (omega arith) st.marks));
       run = subst (AllOfRun 0) (sym eh) st.run;
       answered = subst AllAnswered (sym eh) st.answered;
       ready = subst (TakeReadyLanes g.opening 1 []) (sym eh) st.ready;
       fair = subst (AllFair g.opening) (sym same_sent) st.fair;
       asked = asked ∙ (st.asked ∙ ap (λ x. map call_of (entries_by x 0)) (sym eh));
+      helped = helped ∙ (st.helped ∙ ap (λ x. entries_by x 1) (sym eh));
       whole = subst (λ x. IsWhole (world_of g.opening x t.clients)) (sym eh) whole;
       honest = subst (λ x. AreHonest (world_of g.opening x t.clients)) (sym eh) honest;
       apart = apart;
@@ -66,17 +70,52 @@ recv-played g p p' s n count at x' name before out nm st is es em ec rec =
     let own : IsHonest g.opening h is.own = own-honest g p s n is.own st is.there in
     let now : IsHonest g.opening h c = many-honest g.opening h is.own (how_many count (length (unseen is.own h))) (stage-lawful g p s st) own in
     let number : c.number ≡ n = received-number g.opening is.own (take (how_many count (length (unseen is.own h))) (unseen is.own h)) ∙ is.number in
-    let t : Stage = say (received_words (name_of g n) (length c.seen) ∷ []) (with_clients (put_client c s.clients) (record s { turns = [] })) in
+    let t : Stage = say (received_words (name_of g n) (length c.seen) ∷ []) (with_clients (put_client c s.clients) (record s { turns = []; seen = h })) in
     record {
       stage = t;
       more = Looked h ∷ [];
       grown = look-turns p p' es em;
       acts = λ rest. rw is.there refl;
       stands =
-          look-stands g p p' s t st es em refl refl refl (put-whole w c st.whole (honest-joined g.opening h c now) (now.later, now.behind)) (put-honest w c st.honest now) (subst AreApart (sym (put-numbers c s.clients)) st.apart)
+          look-stands g p p' s t st es em refl refl refl refl refl (put-whole w c st.whole (honest-joined g.opening h c now) (now.later, now.behind)) (put-honest w c st.honest now) (subst AreApart (sym (put-numbers c s.clients)) st.apart)
           (subst (λ xs. AreMirrored g.opening xs (put_client c s.clients)) (sym ec) (is.replaced x' c number rec.mirrors));
       piece = as_text (received_words (name_of g n) (length c.seen) ∷ []);
       printed = rec.printed ∙ ap (λ z. before ++ as_text (received_words z (length c.seen) ∷ [])) nm;
+      said = refl;
+    }
+
+-- cells
+pub cells-played : (g : Game) (p p' : Player) (s : Stage) (before out : List ℕ) → Stands g p s → p'.session ≡ p.session → p'.marks ≡ p.marks ++ length (entries_of p) ∷ [] → p'.clients ≡ p.clients
+    → out ≡ before ++ as_text (states_at (state g.opening (entries_of p))) → HasPlayed g Cells p p' s before out
+cells-played g p p' s before out st es em ec printed =
+    let h : List Entry = entries_of p in
+    let t : Stage = say (states_at (state g.opening h)) (record s { turns = []; seen = h }) in
+    record {
+      stage = t;
+      more = Looked h ∷ [];
+      grown = look-turns p p' es em;
+      acts = λ rest. refl;
+      stands = look-stands g p p' s t st es em refl refl refl refl refl st.whole st.honest st.apart (subst (λ v. AreMirrored g.opening v.items s.clients) (sym ec) st.mirrored);
+      piece = as_text (states_at (state g.opening h));
+      printed = printed;
+      said = refl;
+    }
+
+-- book
+pub book-played : (g : Game) (p p' : Player) (s : Stage) (before out : List ℕ) → Stands g p s → p'.session ≡ p.session → p'.marks ≡ p.marks ++ length (entries_of p) ∷ [] → p'.clients ≡ p.clients
+    → out ≡ before ++ text_of (tidied (state g.opening (entries_of p)).book) → HasPlayed g Book p p' s before out
+book-played g p p' s before out st es em ec printed =
+    let h : List Entry = entries_of p in
+    let text : List ℕ = text_of (tidied (state g.opening h).book) in
+    let t : Stage = say_text text (record s { turns = []; seen = h }) in
+    record {
+      stage = t;
+      more = Looked h ∷ [];
+      grown = look-turns p p' es em;
+      acts = λ rest. refl;
+      stands = look-stands g p p' s t st es em refl refl refl refl refl st.whole st.honest st.apart (subst (λ v. AreMirrored g.opening v.items s.clients) (sym ec) st.mirrored);
+      piece = text;
+      printed = printed;
       said = refl;
     }
 
@@ -96,11 +135,11 @@ received-some g count h m x x' at left many at' name before out ea el em rec cur
 
 -- what a round's turns make of the stage
 round-acts : (g : Game) (s : Stage) (ns : List ℕ) (t : Stage) (all more rest : List Turn) (h k : List Entry) → ns ≡ map number_of s.clients → k ≡ h → all ++ rest ≡ more ++ Looked h ∷ rest → send_each g ns (record s { turns = more ++ Looked h ∷ rest }) ≡ Some (record t { turns = Looked h ∷ rest })
-    → round g (record s { turns = all ++ rest }) ≡ Some (record { seen = k; stage = with_clients (receive_all g h t.clients) (record t { turns = rest }) })
+    → round g (record s { turns = all ++ rest }) ≡ Some (record { seen = k; stage = with_clients (receive_all g h t.clients) (record t { turns = rest; seen = h }) })
 round-acts g s ns t all more rest h k en ek split sends =
     ap (λ ts. round g (record s { turns = ts })) split
     ∙ (ap (λ o. or_none o (λ u. or_none (looks u) (λ m. Some (record { seen = m.seen; stage = with_clients (receive_all g m.seen m.stage.clients) m.stage })))) (ap (λ ms. send_each g ms (record s { turns = more ++ Looked h ∷ rest })) (sym en) ∙ sends)
-    ∙ ap (λ z. Some (record { seen = z; stage = with_clients (receive_all g h t.clients) (record t { turns = rest }) })) (sym ek))
+    ∙ ap (λ z. Some (record { seen = z; stage = with_clients (receive_all g h t.clients) (record t { turns = rest; seen = h }) })) (sym ek))
 
 -- a round
 pub round-played : (g : Game) (p a c : Player) (s : Stage) (ns : List ℕ) (at : ℕ) (x y : List ℕ) → ns ≡ map number_of s.clients → (d : HasDone g (send_each g ns) p a s x y) → at ≡ length (entries_of a) → c.session ≡ a.session → c.marks ≡ a.marks ++ at ∷ []
@@ -109,7 +148,7 @@ round-played g p a c s ns at x y en d ea es em mir =
     let h : List Entry = entries_of a in
     let eh : entries_of c ≡ h = ap history_of es in
     let marks : c.marks ≡ a.marks ++ length h ∷ [] = em ∙ ap (λ k. a.marks ++ k ∷ []) ea in
-    let t : Stage = with_clients (receive_all g h d.stage.clients) (record d.stage { turns = [] }) in
+    let t : Stage = with_clients (receive_all g h d.stage.clients) (record d.stage { turns = []; seen = h }) in
     record {
       stage = t;
       more = d.more ++ Looked h ∷ [];
@@ -117,7 +156,7 @@ round-played g p a c s ns at x y en d ea es em mir =
       grown = look-turns a c es marks ∙ (ap (λ ts. ts ++ Looked h ∷ []) d.grown ∙ append_assoc (turns_of p) d.more (Looked h ∷ []));
       acts = λ rest. round-acts g s ns d.stage (d.more ++ Looked h ∷ []) d.more rest h (entries_of c) en eh (append_assoc d.more (Looked h ∷ []) rest) (d.acts (Looked h ∷ rest));
       at_is = ea ∙ ap length (sym eh);
-      stands = look-stands g a c d.stage t d.stands es marks refl refl refl (each-whole g h d.stage.clients d.stands.whole d.stands.honest) (each-honest g h d.stage.clients (record { notebook = d.stands.whole.notebook; legal = d.stands.whole.legal }) d.stands.honest) (subst AreApart (sym (each-number g h d.stage.clients)) d.stands.apart) mir;
+      stands = look-stands g a c d.stage t d.stands es marks refl refl refl refl refl (each-whole g h d.stage.clients d.stands.whole d.stands.honest) (each-honest g h d.stage.clients (record { notebook = d.stands.whole.notebook; legal = d.stands.whole.legal }) d.stands.honest) (subst AreApart (sym (each-number g h d.stage.clients)) d.stands.apart) mir;
       piece = d.piece;
       printed = d.printed;
       said = d.said;
@@ -203,7 +242,7 @@ sync-played g a b c s at x y z out i r sent printed =
           ap (λ k. rounds k g (record s { turns = all ++ rest })) (sym d.1 ∙ fuel)
           ∙ (ap (λ ts. rounds (suc d.0 + i.count) g (record s { turns = ts })) (append_assoc i.more r.more rest)
           ∙ (i.acts (r.more ++ rest) (suc d.0) ∙ (ap (λ o. after_round d.0 g o) (r.acts rest) ∙ ap (λ b. if b then Some (say words (record r.stage { turns = rest })) else rounds d.0 g (record r.stage { turns = rest })) sent)));
-      stands = record { session = r.stands.session; used = refl; marks = r.stands.marks; run = r.stands.run; answered = r.stands.answered; ready = r.stands.ready; fair = r.stands.fair; asked = r.stands.asked; whole = r.stands.whole; honest = r.stands.honest; apart = r.stands.apart; mirrored = r.stands.mirrored };
+      stands = record { session = r.stands.session; used = refl; seen = r.stands.seen; marks = r.stands.marks; run = r.stands.run; answered = r.stands.answered; ready = r.stands.ready; fair = r.stands.fair; asked = r.stands.asked; helped = r.stands.helped; whole = r.stands.whole; honest = r.stands.honest; apart = r.stands.apart; mirrored = r.stands.mirrored };
       piece = (i.piece ++ r.piece) ++ as_text words;
       printed = printed ∙ (ap (λ k. z ++ as_text (sync_words k ∷ [])) r.at_is ∙ (ap (λ w. w ++ as_text words) (r.printed ∙ (ap (λ w. w ++ r.piece) i.printed ∙ append_assoc x i.piece r.piece)) ∙ append_assoc x (i.piece ++ r.piece) (as_text words)));
       said = ap (λ w. w ++ as_text words) (r.said ∙ (ap (λ w. w ++ r.piece) i.said ∙ append_assoc s.said i.piece r.piece)) ∙ append_assoc s.said (i.piece ++ r.piece) (as_text words);

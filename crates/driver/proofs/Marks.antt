@@ -1,5 +1,6 @@
 -- Marks, entries under 0 and answered evaluations of a history that grows.
-use Rattle.std.proofs.Common.{◌≡◌, ℕ, ◌≤◌, ◌==◌, Bool, true, false, if◌then◌else◌, List, [], ◌∷◌, ◌++◌, length, map, Option, Some, None, refl, sym, ap, subst, ◌∙◌, arith, inl, inr}
+use Rattle.std.proofs.Common.{◌≡◌, ℕ, ◌≤◌, ◌==◌, Bool, true, false, if◌then◌else◌, List, [], ◌∷◌, ◌++◌, length, map, drop, Option, Some, None, refl, sym, ap, subst, ◌∙◌, arith, inl, inr}
+use Rattle.std.proofs.Math.Seq.{drop-append_seam}
 use Rattle.std.proofs.lemmas.Bool.Decides.{nat_tests}
 use Rattle.std.proofs.lemmas.List.{length-append, append-nil, append_assoc, map-append}
 use Rattle.delta.specs.declared.Step.{Step}
@@ -15,7 +16,7 @@ use Rattle.notebook.specs.declared.change.CellKind.{CellKind}
 use Rattle.notebook.specs.declared.change.CellKind.TheVariants.{Code, Markdown}
 use Rattle.notebook.specs.declared.parts.Parts.{Parts}
 use Rattle.session_ops.specs.Same.{same_numbers, same_step, same_steps, same_option, same_kind, same_op, same_call}
-use Rattle.driver.specs.Player.{Sent}
+use Rattle.driver.specs.Player.{Sent, helped_since}
 use Rattle.driver.specs.Turns.{Made, Looked, turns_from, AreMarks}
 use Rattle.driver.specs.Headline.{AllOfRun, AllAnswered, IsFollowed, IsAnsweredNext, AllFair, IsFair, call_of}
 use Rattle.driver.specs.Settling.{AreEvaluationsBy}
@@ -69,6 +70,16 @@ by-append (x ∷ h) k p = ap (λ ys. if x.by == p then x ∷ ys else ys) (by-app
 pub asked-push : (h : List Entry) (e : Entry) → e.by ≡ 0 → map call_of (entries_by (h ++ e ∷ []) 0) ≡ map call_of (entries_by h 0) ++ e.call ∷ []
 asked-push h e by =
     ap (map call_of) (by-append h (e ∷ []) 0 ∙ ap (λ b. entries_by h 0 ++ (if b then e ∷ [] else [])) {y = true} (grind (arith, nat_tests, by))) ∙ map-append call_of (entries_by h 0) (e ∷ [])
+
+-- those under 1 are the same where the player made one more
+pub helped-push : (h : List Entry) (e : Entry) → e.by ≡ 0 → entries_by (h ++ e ∷ []) 1 ≡ entries_by h 1
+helped-push h e by = by-append h (e ∷ []) 1 ∙ (ap (λ b. entries_by h 1 ++ (if b then e ∷ [] else [])) {y = false} (grind (arith, nat_tests, by)) ∙ append-nil (entries_by h 1))
+
+-- with those since what was seen they are all
+pub helped-all : (h more seen helped : List Entry) → seen ≡ h → helped ≡ entries_by h 1 → helped ++ helped_since seen (h ++ more) ≡ entries_by (h ++ more) 1
+helped-all h more seen helped es eh =
+    let new : drop (length seen) (h ++ more) ≡ more = ap (λ x. drop (length x) (h ++ more)) es ∙ drop-append_seam h more in
+    ap (λ x. x ++ helped_since seen (h ++ more)) eh ∙ (ap (λ x. entries_by h 1 ++ entries_by x 1) new ∙ sym (by-append h more 1))
 
 -- evaluators' entries stand under their own number
 pub run-evaluated : (h es : List Entry) → AllOfRun 0 h → AreEvaluationsBy 1 es → AllOfRun 0 (h ++ es)

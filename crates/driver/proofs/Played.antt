@@ -35,7 +35,7 @@ use Rattle.driver.specs.declared.player.Player.{Player}
 use Rattle.driver.proofs.Once.{all-grown}
 use Rattle.world.proofs.Fronts.{fronts-show}
 use Rattle.driver.proofs.Showing.{listed-lines}
-use Rattle.driver.proofs.Settled.{looked-stands, looked-turns}
+use Rattle.driver.proofs.Settled.{after_settling, looked-stands, looked-turns}
 use Rattle.driver.proofs.Readying.{ready-none}
 
 -- texts one after the other
@@ -133,12 +133,14 @@ stands-unsaid g p s st =
     record {
       session = st.session;
       used = st.used;
+      seen = st.seen;
       marks = st.marks;
       run = st.run;
       answered = st.answered;
       ready = st.ready;
       fair = st.fair;
       asked = st.asked;
+      helped = st.helped;
       whole = st.whole;
       honest = st.honest;
       apart = st.apart;
@@ -204,10 +206,10 @@ clients-of n0 h (c ∷ cs) all = (record { cursor = (all.0.later, all.0.behind);
 states-left : (n0 : Parts) (h : List Entry) → LeaveStates n0 h
 states-left n0 h = λ before rest by call answer e k. state-append n0 before (entry_of by call answer) ∙ nothing-changed n0 before by call answer k
 
--- the history that was played, with a stage that has its calls, messages and clients
-actual-of : (n0 : Parts) (h : List Entry) (marks : List ℕ) (s : Stage) → IsNotebook n0 → IsHistory n0 0 h marks → s.asked ≡ map call_of (entries_by h 0) → AllFair n0 s.sent → AllByRecursion (IsHonest n0 h) s.clients → IsActual n0 0 h marks s
-actual-of n0 h marks s opening history calls fair honest =
-    record { history = history; calls = calls; fair = fair; clients = clients-of n0 h s.clients honest; once = all-grown n0 h opening history.legal; evaluated = fronts-show n0 h history.legal; late = states-left n0 h }
+-- the history that was played, with a stage that has its calls, what settling waited for, messages and clients
+actual-of : (n0 : Parts) (h : List Entry) (marks : List ℕ) (s : Stage) → IsNotebook n0 → IsHistory n0 0 h marks → s.asked ≡ map call_of (entries_by h 0) → s.helped ≡ entries_by h 1 → AllFair n0 s.sent → AllByRecursion (IsHonest n0 h) s.clients → IsActual n0 0 h marks s
+actual-of n0 h marks s opening history calls helped fair honest =
+    record { history = history; calls = calls; settling = sym helped; fair = fair; clients = clients-of n0 h s.clients honest; once = all-grown n0 h opening history.legal; evaluated = fronts-show n0 h history.legal; late = states-left n0 h }
 
 -- a player before its first line
 pub first-stands : (n0 : Parts) (names : List (List ℕ)) (p : Player) → IsFresh n0 p → Stands (record { opening = n0; names = names }) p (begun [] [])
@@ -215,12 +217,14 @@ first-stands n0 names p fr =
     record {
       session = fr.session;
       used = refl;
+      seen = sym fr.history;
       marks = subst (λ ms. AreMarks 0 ms (length (entries_of p))) (sym fr.marks) tt;
       run = subst (AllOfRun 0) (sym fr.history) tt;
       answered = subst AllAnswered (sym fr.history) tt;
       ready = subst (TakeReadyLanes n0 1 []) (sym fr.history) (ready-none n0 1 []);
       fair = tt;
       asked = ap (λ h. map call_of (entries_by h 0)) (sym fr.history);
+      helped = ap (λ h. entries_by h 1) (sym fr.history);
       whole = record { legal = fr.session.legal; notebook = fr.session.opening; joined = tt; behind = tt };
       honest = tt;
       apart = tt;
@@ -238,19 +242,19 @@ run-all n0 notices content p0 p1 p2 pieces fr l over =
     let h : List Entry = entries_of p2 in
     let ms : List ℕ = p2.marks in
     let looking : Stage = record l.stage { turns = Looked h ∷ [] } in
-    let last : Stage = record l.stage { turns = [] } in
+    let last : Stage = after_settling l.stage h in
     let end : Stands g p2 (say [] last) = looked-stands g p1 p2 l.stage [] l.stands over.settled.gone over.clients over.marks in
     let grown : turns_of p1 ≡ l.more = l.grown ∙ ap (λ ts. ts ++ l.more) (no-turns n0 p0 fr) in
     let turns : turns_of p2 ≡ l.more ++ Looked h ∷ [] = looked-turns g p1 p2 l.stage l.stands over.settled.gone over.marks ∙ ap (λ ts. ts ++ Looked h ∷ []) grown in
     let lines : printed_by n0 content content.lines h ms ≡ Some (printing pieces looking)
-    = ap (λ ts. let k : Stage = record { turns = ts; clients = []; asked = []; sent = []; said = [] } in play g content.lines k) turns ∙ l.plays (Looked h ∷ []) in
+    = ap (λ ts. let k : Stage = record { turns = ts; seen = []; clients = []; asked = []; sent = []; helped = []; said = [] } in play g content.lines k) turns ∙ l.plays (Looked h ∷ []) in
     let idle : settled g looking ≡ Some last = ap (λ b. if b then Some last else None) over.settled.idle in
     let done : finished n0 content h ms ≡ Some (printing pieces last) = ap (λ o. or_none o (ended n0 content)) lines ∙ ap (λ o. or_none o (λ s. Some (printing pieces s))) idle in
     record {
       printed = ap (λ o. or_none o (λ p. ending n0 notices h p.pieces p.stage.turns)) done;
       end = printing pieces last;
       played = done;
-      actual = actual-of n0 h ms last fr.session.opening (record { legal = end.session.legal; marked = end.marks; others = end.run; answered = end.answered; ready = end.ready }) end.asked end.fair end.honest;
+      actual = actual-of n0 h ms last fr.session.opening (record { legal = end.session.legal; marked = end.marks; others = end.run; answered = end.answered; ready = end.ready }) end.asked end.helped end.fair end.honest;
     }
 
 -- the end of the play
@@ -274,7 +278,7 @@ run-first n0 notices content first others p0 p1 pieces fr parts l =
     let ms : List ℕ = p1.marks in
     let last : Stage = record l.stage { turns = [] } in
     let turns : turns_of p1 ≡ l.more ++ [] = l.grown ∙ (ap (λ ts. ts ++ l.more) (no-turns n0 p0 fr) ∙ sym (append-nil l.more)) in
-    let done : printed_by n0 content first h ms ≡ Some (printing pieces last) = ap (λ ts. let k : Stage = record { turns = ts; clients = []; asked = []; sent = []; said = [] } in play g first k) turns ∙ l.plays [] in
+    let done : printed_by n0 content first h ms ≡ Some (printing pieces last) = ap (λ ts. let k : Stage = record { turns = ts; seen = []; clients = []; asked = []; sent = []; helped = []; said = [] } in play g first k) turns ∙ l.plays [] in
     record {
       lines = first;
       others = others;
@@ -283,7 +287,7 @@ run-first n0 notices content first others p0 p1 pieces fr parts l =
       played = done;
       used = refl;
       printed = refl;
-      actual = actual-of n0 h ms last fr.session.opening (history-of g p1 l.stage l.stands) l.stands.asked l.stands.fair l.stands.honest;
+      actual = actual-of n0 h ms last fr.session.opening (history-of g p1 l.stage l.stands) l.stands.asked l.stands.helped l.stands.fair l.stands.honest;
     }
 
 lines-cut : (n0 : Parts) (content : Content) (p0 p1 : Player) (a b : Output) → IsFresh n0 p0 → HaveBrokenOff (game n0 content) content.lines p0 p1 (begun [] []) a b → IsCutAfter n0 content (entries_of p1) p1.marks a b

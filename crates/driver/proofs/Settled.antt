@@ -20,19 +20,17 @@ use Rattle.world.specs.Waiting.{IsHonest}
 use Rattle.notebook.specs.Rules.{IsNotebook}
 use Rattle.world.proofs.Honest.{start-honest, respond-honest}
 use Rattle.world.proofs.Moving.{rest-replies}
-use Rattle.livemd_format.specs.Tidy.{tidied}
-use Rattle.livemd_format.specs.Write.{text_of}
-use Rattle.script.specs.declared.line.ScriptLine.TheVariants.{Settle, Cells, Book}
+use Rattle.script.specs.declared.line.ScriptLine.TheVariants.{Settle}
 use Rattle.transcript.specs.Texts.{as_text}
 use Rattle.driver.specs.Turns.{Looked, turns_from, AreMarks}
-use Rattle.driver.specs.Player.{Game, Stage, say, say_text, states_at}
+use Rattle.driver.specs.Player.{Game, Stage, say, states_at, helped_since}
 use Rattle.driver.specs.Headline.{AllOfRun, IsEvaluation, TakeReadyLanes, call_of}
 use Rattle.driver.specs.Clients.{AreMirrored}
 use Rattle.driver.specs.Statuses.{Tells, status_lines}
 use Rattle.driver.specs.Settling.{AreEvaluationsBy, HasGoneOn, HasSettled}
 use Rattle.driver.specs.Standing.{Stands, HasPlayed, entries_of, turns_of}
 use Rattle.driver.specs.declared.player.Player.{Player}
-use Rattle.driver.proofs.Marks.{marks-longer, marks-push, turns-looked, turns-evaluated, run-evaluated, asked-evaluated}
+use Rattle.driver.proofs.Marks.{marks-longer, marks-push, turns-looked, turns-evaluated, run-evaluated, asked-evaluated, helped-all}
 use Rattle.driver.proofs.Readying.{ready-none, ready-append}
 
 -- nobody joins by an evaluation
@@ -88,21 +86,27 @@ all-joined : (n0 : Parts) (h h' : List Entry) (cs : List Holder) → (state n0 h
 all-joined n0 h h' [] e all = tt
 all-joined n0 h h' (c ∷ cs) e all = (ap (is_in c.number) e ∙ all.0, all-joined n0 h h' cs e all.1)
 
--- the player after evaluations and a look, of which a text was printed
-looked-said : (g : Game) (p p' : Player) (s : Stage) (text : List ℕ) → Stands g p s → HasGoneOn g.opening 1 p.session p'.session → p'.clients ≡ p.clients → p'.marks ≡ p.marks ++ length (entries_of p') ∷ [] → Stands g p' (say_text text (record s { turns = [] }))
-looked-said g p p' s text st gone ec em =
+-- the stage after a look that found this history, where settling waited for it
+abbrev pub after_settling : Stage → List Entry → Stage
+after_settling s h = record s { turns = []; seen = h; helped = s.helped ++ helped_since s.seen h }
+
+-- the player after evaluations and a look, of which lines were printed
+pub looked-stands : (g : Game) (p p' : Player) (s : Stage) (lines : List (List ℕ)) → Stands g p s → HasGoneOn g.opening 1 p.session p'.session → p'.clients ≡ p.clients → p'.marks ≡ p.marks ++ length (entries_of p') ∷ [] → Stands g p' (say lines (after_settling s (entries_of p')))
+looked-stands g p p' s lines st gone ec em =
     let h : List Entry = entries_of p in
     let h' : List Entry = entries_of p' in
     let more : length h ≤ length h' = rw (gone.history, length-append h gone.more) (omega arith) in
     record {
       session = gone.session;
       used = refl;
+      seen = refl;
       marks = subst (λ ms. AreMarks 0 ms (length h')) (sym em) (marks-push 0 p.marks (length h') (omega arith) (marks-longer 0 p.marks (length h) (length h') more st.marks));
       run = subst (AllOfRun 0) (sym gone.history) (run-evaluated h gone.more st.run gone.evaluations);
       answered = gone.answered st.answered;
       ready = subst (TakeReadyLanes g.opening 1 []) (sym gone.history) (ready-append g.opening 1 [] h gone.more st.ready gone.ready);
       fair = st.fair;
       asked = st.asked ∙ (sym (asked-evaluated h gone.more gone.evaluations) ∙ ap (λ x. map call_of (entries_by x 0)) (sym gone.history));
+      helped = subst (λ x. s.helped ++ helped_since s.seen x ≡ entries_by x 1) (sym gone.history) (helped-all h gone.more s.seen s.helped st.seen st.helped);
       whole =
           record {
             legal = gone.session.legal;
@@ -114,9 +118,6 @@ looked-said g p p' s text st gone ec em =
       apart = st.apart;
       mirrored = subst (λ v. AreMirrored g.opening v.items s.clients) (sym ec) st.mirrored;
     }
-
-pub looked-stands : (g : Game) (p p' : Player) (s : Stage) (lines : List (List ℕ)) → Stands g p s → HasGoneOn g.opening 1 p.session p'.session → p'.clients ≡ p.clients → p'.marks ≡ p.marks ++ length (entries_of p') ∷ [] → Stands g p' (say lines (record s { turns = [] }))
-looked-stands g p p' s lines st gone ec em = looked-said g p p' s (as_text lines) st gone ec em
 
 -- one turn more, and that a look
 pub looked-turns : (g : Game) (p p' : Player) (s : Stage) → Stands g p s → HasGoneOn g.opening 1 p.session p'.session → p'.marks ≡ p.marks ++ length (entries_of p') ∷ [] → turns_of p' ≡ turns_of p ++ Looked (entries_of p') ∷ []
@@ -150,43 +151,12 @@ pub settle-played : (g : Game) (p p' : Player) (s : Stage) (before out : List �
     → out ≡ before ++ as_text (codes "settled" ∷ []) → HasPlayed g Settle p p' s before out
 settle-played g p p' s before out st set ec em printed =
     record {
-      stage = say (codes "settled" ∷ []) (record s { turns = [] });
+      stage = say (codes "settled" ∷ []) (after_settling s (entries_of p'));
       more = Looked (entries_of p') ∷ [];
       grown = looked-turns g p p' s st set.gone em;
       acts = λ rest. rw set.idle refl;
       stands = looked-stands g p p' s (codes "settled" ∷ []) st set.gone ec em;
       piece = as_text (codes "settled" ∷ []);
-      printed = printed;
-      said = refl;
-    }
-
--- cells
-pub cells-played : (g : Game) (p p' : Player) (s : Stage) (before out : List ℕ) → Stands g p s → HasGoneOn g.opening 1 p.session p'.session → p'.clients ≡ p.clients → p'.marks ≡ p.marks ++ length (entries_of p') ∷ []
-    → out ≡ before ++ as_text (states_at (state g.opening (entries_of p'))) → HasPlayed g Cells p p' s before out
-cells-played g p p' s before out st gone ec em printed =
-    record {
-      stage = say (states_at (state g.opening (entries_of p'))) (record s { turns = [] });
-      more = Looked (entries_of p') ∷ [];
-      grown = looked-turns g p p' s st gone em;
-      acts = λ rest. refl;
-      stands = looked-stands g p p' s (states_at (state g.opening (entries_of p'))) st gone ec em;
-      piece = as_text (states_at (state g.opening (entries_of p')));
-      printed = printed;
-      said = refl;
-    }
-
--- book
-pub book-played : (g : Game) (p p' : Player) (s : Stage) (before out : List ℕ) → Stands g p s → HasGoneOn g.opening 1 p.session p'.session → p'.clients ≡ p.clients → p'.marks ≡ p.marks ++ length (entries_of p') ∷ []
-    → out ≡ before ++ text_of (tidied (state g.opening (entries_of p')).book) → HasPlayed g Book p p' s before out
-book-played g p p' s before out st gone ec em printed =
-    let text : List ℕ = text_of (tidied (state g.opening (entries_of p')).book) in
-    record {
-      stage = say_text text (record s { turns = [] });
-      more = Looked (entries_of p') ∷ [];
-      grown = looked-turns g p p' s st gone em;
-      acts = λ rest. refl;
-      stands = looked-said g p p' s text st gone ec em;
-      piece = text;
       printed = printed;
       said = refl;
     }

@@ -36,19 +36,21 @@ use Rattle.driver.proofs.Placing.{placed}
 use Rattle.driver.proofs.Showing.{own-lines, edited-number, reported-number}
 
 -- the player with other clients, and nothing else changed
-pub stands-with : (g : Game) (p p' : Player) (s t : Stage) → Stands g p s → p'.session ≡ p.session → p'.marks ≡ p.marks → t.turns ≡ [] → t.asked ≡ s.asked → t.sent ≡ s.sent → IsWhole (world_of g.opening (entries_of p) t.clients) → AreHonest (world_of g.opening (entries_of p) t.clients)
+pub stands-with : (g : Game) (p p' : Player) (s t : Stage) → Stands g p s → p'.session ≡ p.session → p'.marks ≡ p.marks → t.turns ≡ [] → t.seen ≡ s.seen → t.asked ≡ s.asked → t.helped ≡ s.helped → t.sent ≡ s.sent → IsWhole (world_of g.opening (entries_of p) t.clients) → AreHonest (world_of g.opening (entries_of p) t.clients)
     → AreApart (map number_of t.clients) → AreMirrored g.opening p'.clients.items t.clients → Stands g p' t
-stands-with g p p' s t st es em used asked same_sent whole honest apart mir =
+stands-with g p p' s t st es em used seen asked helped same_sent whole honest apart mir =
     let eh : entries_of p' ≡ entries_of p = ap history_of es in
     record {
       session = subst (IsSession g.opening) (sym es) st.session;
       used = used;
+      seen = seen ∙ (st.seen ∙ sym eh);
       marks = subst (λ ms. AreMarks 0 ms (length (entries_of p'))) (sym em) (subst (λ x. AreMarks 0 p.marks (length x)) (sym eh) st.marks);
       run = subst (AllOfRun 0) (sym eh) st.run;
       answered = subst AllAnswered (sym eh) st.answered;
       ready = subst (TakeReadyLanes g.opening 1 []) (sym eh) st.ready;
       fair = subst (AllFair g.opening) (sym same_sent) st.fair;
       asked = asked ∙ (st.asked ∙ ap (λ x. map call_of (entries_by x 0)) (sym eh));
+      helped = helped ∙ (st.helped ∙ ap (λ x. entries_by x 1) (sym eh));
       whole = subst (λ x. IsWhole (world_of g.opening x t.clients)) (sym eh) whole;
       honest = subst (λ x. AreHonest (world_of g.opening x t.clients)) (sym eh) honest;
       apart = apart;
@@ -74,13 +76,13 @@ done-still g act p p' s t piece before out es em acts st printed said =
 pub done-saying : (g : Game) (act : Stage → Option Stage) (p p' : Player) (s : Stage) (lines : List (List ℕ)) (before out : List ℕ) → Stands g p s → p'.session ≡ p.session → p'.marks ≡ p.marks → AreMirrored g.opening p'.clients.items s.clients
     → ((ts : List Turn) → act (record s { turns = ts }) ≡ Some (say lines (record s { turns = ts }))) → out ≡ before ++ as_text lines → HasDone g act p p' s before out
 done-saying g act p p' s lines before out st es em mir acts printed =
-    done-still g act p p' s (say lines s) (as_text lines) before out es em acts (stands-with g p p' s (say lines s) st es em st.used refl refl st.whole st.honest st.apart mir) printed refl
+    done-still g act p p' s (say lines s) (as_text lines) before out es em acts (stands-with g p p' s (say lines s) st es em st.used refl refl refl refl st.whole st.honest st.apart mir) printed refl
 
 -- an act that does nothing
 pub done-nothing : (g : Game) (act : Stage → Option Stage) (p p' : Player) (s : Stage) (before : List ℕ) → Stands g p s → p'.session ≡ p.session → p'.marks ≡ p.marks → AreMirrored g.opening p'.clients.items s.clients → ((ts : List Turn) → act (record s { turns = ts }) ≡ Some (record s { turns = ts }))
     → HasDone g act p p' s before before
 done-nothing g act p p' s before st es em mir acts =
-    done-still g act p p' s s [] before before es em acts (stands-with g p p' s s st es em st.used refl refl st.whole st.honest st.apart mir) (sym (append-nil before)) (sym (append-nil s.said))
+    done-still g act p p' s s [] before before es em acts (stands-with g p p' s s st es em st.used refl refl refl refl st.whole st.honest st.apart mir) (sym (append-nil before)) (sym (append-nil s.said))
 
 -- the place of the client of a number
 pub stands-placed : (g : Game) (p : Player) (s : Stage) (n : ℕ) (o r : Option ℕ) (xs : List Client) → Stands g p s → o ≡ place_in n (map number_in xs) → xs ≡ p.clients.items → o ≡ r → IsPlace g.opening p.clients.items s.clients n r
@@ -141,7 +143,7 @@ pub put-played : (g : Game) (act : Stage → Option Stage) (p p' : Player) (s : 
     → ((ts : List Turn) → act (record s { turns = ts }) ≡ Some (say lines (with_clients (put_client m' s.clients) (record s { turns = ts })))) → out ≡ before ++ as_text lines → HasDone g act p p' s before out
 put-played g act p p' s n m m' lines before out st es em mir whole honest acts printed =
     let t : Stage = say lines (with_clients (put_client m' s.clients) s) in
-    done-still g act p p' s t (as_text lines) before out es em acts (stands-with g p p' s t st es em st.used refl refl whole honest (subst AreApart (sym (put-numbers m' s.clients)) st.apart) mir) printed refl
+    done-still g act p p' s t (as_text lines) before out es em acts (stands-with g p p' s t st es em st.used refl refl refl refl whole honest (subst AreApart (sym (put-numbers m' s.clients)) st.apart) mir) printed refl
 
 -- a client of the stage stands as it should
 pub own-honest : (g : Game) (p : Player) (s : Stage) (n : ℕ) (c : Holder) → Stands g p s → client_of n s.clients ≡ Some c → IsHonest g.opening (entries_of p) c

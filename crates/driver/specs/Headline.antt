@@ -104,10 +104,11 @@ pub record IsHistory (n0 : Parts) (workers : ℕ) (h : List Entry) (marks : List
 abbrev pub LeaveStates : Parts → List Entry → Type 0
 LeaveStates n0 h = (before rest : List Entry) (by : ℕ) (call : Call) (answer : Reply) → h ≡ before ++ entry_of by call answer ∷ rest → ChangesNothing call answer → state n0 (before ++ entry_of by call answer ∷ []) ≡ state n0 before
 
--- one actual history, and the stage to which it brought the play: the stage's calls are the player's entries in order, each once (so each posted message has at most one entry); each message of a client fairly answered; its clients; each source, with each accepted delta in it once; what each evaluated cell shows after each front of the history; and late answers and refusals change nothing
+-- one actual history, and the stage to which it brought the play: the stage's calls are the player's entries in order, each once (so each posted message has at most one entry), and the entries under 1 are just those between the look of a settle, or of the end, and the turn before it; each message of a client fairly answered; its clients; each source, with each accepted delta in it once; what each evaluated cell shows after each front of the history; and late answers and refusals change nothing
 pub record IsActual (n0 : Parts) (workers : ℕ) (h : List Entry) (marks : List ℕ) (s : Stage) : Type 0 where
   pub history : IsHistory n0 workers h marks
   pub calls : s.asked ≡ map call_of (entries_by h 0)
+  pub settling : entries_by h 1 ≡ s.helped
   pub fair : AllFair n0 s.sent
   pub clients : AllClients n0 h s.clients
   pub once : AllGrown (state n0 h)

@@ -15,7 +15,7 @@ use Rattle.session_ops.specs.declared.entry.Reply.TheVariants.{Accepted}
 use Rattle.session_ops.specs.declared.entry.Entry.{Entry}
 use Rattle.session_ops.specs.Structure.{is_postable}
 use Rattle.lanes.specs.Work.{is_idle}
-use Rattle.session_ops.specs.State.{State, state, revision, refusal_of}
+use Rattle.session_ops.specs.State.{State, state, revision, refusal_of, entries_by}
 use Rattle.session_ops.specs.Same.{same_call}
 use Rattle.client_sync.specs.Client.{Client, Edited, Done, NoCell, EditTooLong, Unfit, edited, reported, received, held, delivered, joined_client, client_of, put_client, without_client, with_message, pending_of}
 use Rattle.world.specs.Claims.{number_of}
@@ -39,12 +39,14 @@ pub record Sent : Type 0 where
   pub op : Op
   pub reply : Reply
 
--- where the play stands: the turns not yet used, the clients in order of joining, the calls made, those of them that clients sent, and what the present line has printed
+-- where the play stands: the turns not yet used, the entries that were there after the last one, the clients in order of joining, the calls made, those of them that clients sent, the entries under 1 that settling found past those of the turn before it, and what the present line has printed
 pub record Stage : Type 0 where
   pub turns : List Turn
+  pub seen : List Entry
   pub clients : List Client
   pub asked : List Call
   pub sent : List Sent
+  pub helped : List Entry
   pub said : List ℕ
 
 abbrev pub or_none : {A B : Type 0} → Option A → (A → Option B) → Option B
@@ -61,7 +63,7 @@ pub record Answered : Type 0 where
 abbrev pub answered : Call → Stage → List Turn → Option Answered
 answered call s [] = None
 answered call s (Looked m ∷ rest) = None
-answered call s (Made seen e ∷ rest) = if same_call e.call call then Some (record { found = seen; seen = seen ++ e ∷ []; reply = e.reply; stage = record s { turns = rest; asked = s.asked ++ call ∷ [] } }) else None
+answered call s (Made seen e ∷ rest) = if same_call e.call call then Some (record { found = seen; seen = seen ++ e ∷ []; reply = e.reply; stage = record s { turns = rest; asked = s.asked ++ call ∷ []; seen = seen ++ e ∷ [] } }) else None
 
 -- the next turn made an entry with just this call
 abbrev pub asks : Call → Stage → Option Answered
@@ -74,7 +76,7 @@ pub record Marked : Type 0 where
 
 abbrev pub marked : Stage → List Turn → Option Marked
 marked s [] = None
-marked s (Looked seen ∷ rest) = Some (record { seen = seen; stage = record s { turns = rest } })
+marked s (Looked seen ∷ rest) = Some (record { seen = seen; stage = record s { turns = rest; seen = seen } })
 marked s (Made seen e ∷ rest) = None
 
 -- the next turn made no entry
@@ -258,15 +260,22 @@ abbrev pub play_pending : Game → ℕ → ℕ → Stage → Option Client → S
 play_pending g n cell s None = no_client g n (codes "pending") s
 play_pending g n cell s (Some c) = say (pending_words (name_of g n) cell (pending_shown g cell c) ∷ []) s
 
--- settle: a look at which nothing is queued and nothing runs; what was evaluated before it is the evaluators'
+-- of a history, the entries under 1 past those that were there before
+abbrev pub helped_since : List Entry → List Entry → List Entry
+helped_since before h = entries_by (drop (length before) h) 1
+
+-- settle: a look at which nothing is queued and nothing runs; the entries under 1 since the turn before it are the evaluations for which it waited
 abbrev pub state_at : Game → Marked → State
 state_at g m = state g.opening m.seen
 
-abbrev pub if_idle : Game → Marked → Option Stage
-if_idle g m = if is_idle (state_at g m).work then Some m.stage else None
+abbrev pub with_helped : List Entry → Marked → Stage
+with_helped before m = record m.stage { helped = m.stage.helped ++ helped_since before m.seen }
+
+abbrev pub if_idle : Game → List Entry → Marked → Option Stage
+if_idle g before m = if is_idle (state_at g m).work then Some (with_helped before m) else None
 
 abbrev pub settled : Game → Stage → Option Stage
-settled g s = or_none (looks s) (if_idle g)
+settled g s = or_none (looks s) (if_idle g s.seen)
 
 abbrev pub play_settle : Game → Stage → Option Stage
 play_settle g s = or_none (settled g s) (λ t. Some (say (codes "settled" ∷ []) t))

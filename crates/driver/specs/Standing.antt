@@ -40,16 +40,18 @@ entries_of p = history_of p.session
 abbrev pub turns_of : Player → List Turn
 turns_of p = turns_from [] (entries_of p) p.marks
 
--- the player stands where this stage does, and all turns are used
+-- the player stands where this stage does; all turns are used, and nothing was made after the last one
 pub record Stands (g : Game) (p : Player) (s : Stage) : Type 0 where
   pub session : IsSession g.opening p.session
   pub used : s.turns ≡ []
+  pub seen : s.seen ≡ entries_of p
   pub marks : AreMarks 0 p.marks (length (entries_of p))
   pub run : AllOfRun 0 (entries_of p)
   pub answered : AllAnswered (entries_of p)
   pub ready : TakeReadyLanes g.opening 1 [] (entries_of p)
   pub fair : AllFair g.opening s.sent
   pub asked : s.asked ≡ map call_of (entries_by (entries_of p) 0)
+  pub helped : s.helped ≡ entries_by (entries_of p) 1
   pub whole : IsWhole (world_of g.opening (entries_of p) s.clients)
   pub honest : AreHonest (world_of g.opening (entries_of p) s.clients)
   pub apart : AreApart (map number_of s.clients)

@@ -15,7 +15,7 @@ game n0 script = record { opening = n0; names = script.names }
 
 -- before the first line: all turns are to come
 abbrev pub begun : List Entry → List ℕ → Stage
-begun h marks = record { turns = turns_from [] h marks; clients = []; asked = []; sent = []; said = [] }
+begun h marks = record { turns = turns_from [] h marks; seen = []; clients = []; asked = []; sent = []; helped = []; said = [] }
 
 -- some lines of the script, played from its beginning
 abbrev pub printed_by : Parts → Content → List ScriptLine → List Entry → List ℕ → Option Printed

@@ -4,7 +4,7 @@ use Rattle.livemd_format.specs.Write.{text_of}
 use Rattle.script.specs.declared.line.ScriptLine.TheVariants.{Book}
 use Rattle.session_core.specs.Session.{IsSession, state_of}
 use Rattle.driver.specs.Standing.{HasPlayed}
-use Rattle.driver.proofs.Settled.{gone-nowhere, book-played}
+use Rattle.driver.proofs.Looking.{book-played}
 use Rattle.driver.proofs.player.Player.book.Goals as goal
 
 pub returns : goal.returns
@@ -15,4 +15,4 @@ returns c = λ g s st.
     let printed : string_bytes c.push_plain.new.out ≡ string_bytes c.args.out.now ++ text_of (tidied (state_of g.opening c.args.self.now.session).book) =
     c.in_ok-push_plain.ensures ∙ ap (λ x. string_bytes c.args.out.now ++ x) (c.as_str.ensures.value ∙ (c.in_ok-book.ensures.text ∙ ap (λ n. text_of (tidied n)) held)) in
     subst (λ p. HasPlayed g Book c.args.self.now p s (string_bytes c.args.out.now) (string_bytes c.push_plain.new.out)) (sym look.1)
-    (book-played g c.args.self.now _ s _ _ st (gone-nowhere g.opening 1 c.args.self.now.session st.session) refl (ap (λ x. c.args.self.now.marks ++ x ∷ []) look.0) printed)
+    (book-played g c.args.self.now _ s _ _ st refl (ap (λ x. c.args.self.now.marks ++ x ∷ []) look.0) refl printed)

@@ -3,7 +3,8 @@ use Rattle.script.specs.declared.line.ScriptLine.TheVariants.{Cells}
 use Rattle.session_core.specs.Session.{IsSession, state_of}
 use Rattle.driver.specs.Standing.{HasPlayed}
 use Rattle.driver.specs.Statuses.{Tells}
-use Rattle.driver.proofs.Settled.{gone-nowhere, cells-played, states-printed}
+use Rattle.driver.proofs.Looking.{cells-played}
+use Rattle.driver.proofs.Settled.{states-printed}
 use Rattle.driver.proofs.player.Player.cells.Goals as goal
 
 pub returns : goal.returns
@@ -12,5 +13,5 @@ returns c = λ g s st.
     let same : c.look.new.self.session ≡ c.args.self.now.session = ap (λ p. p.session) look.1 in
     let book : c.parts.result.now ≡ (state_of g.opening c.args.self.now.session).book = c.parts.ensures.parts ∙ (c.book.ensures g.opening (subst (IsSession g.opening) (sym same) st.session) ∙ ap (λ x. (state_of g.opening x).book) same) in
     subst (λ p. HasPlayed g Cells c.args.self.now p s (string_bytes c.args.out.now) (string_bytes c.push_statuses.new.out)) (sym look.1)
-    (cells-played g c.args.self.now _ s _ _ st (gone-nowhere g.opening 1 c.args.self.now.session st.session) refl (ap (λ x. c.args.self.now.marks ++ x ∷ []) look.0)
+    (cells-played g c.args.self.now _ s _ _ st refl (ap (λ x. c.args.self.now.marks ++ x ∷ []) look.0) refl
     (states-printed g.opening c.args.self.now.session c.parts.result.now _ _ st.session book (λ w t. c.in_ok-push_statuses.ensures w (subst (Tells c.parts.result.now w) (sym same) t))))
