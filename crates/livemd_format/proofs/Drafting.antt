@@ -16,12 +16,14 @@ use Rattle.livemd_lines.specs.Lines.{is_empty}
 use Rattle.livemd_lines.specs.Meanings.{metadata_of}
 use Rattle.livemd_format.specs.Items as item
 use Rattle.livemd_format.specs.Items.{Item}
-use Rattle.livemd_format.specs.Draft.{Draft, add_cell, add_last_output, add_output, drafted, finished, notebook_of, notices_of, on_last, take_branch, with_cell, with_item, with_output, with_section, with_some_section}
+use Rattle.livemd_format.specs.Made.{notebook_of, notices_of}
 use Rattle.livemd_format.specs.RoundTrip.{EndsWithoutStamp}
 use Rattle.livemd_format.specs.Settled.{settle, settled}
 use Rattle.livemd_format.specs.Tidy.{is_markdown}
+use Rattle.livemd_format.specs.Walk.{Draft, add_cell, add_last_output, add_output, drafted, finished, on_last, take_branch, with_cell, with_item, with_output, with_section, with_some_section}
 use Rattle.livemd_format.proofs.Books.{book_items, branch_items, break_items, cell_items, first_at, kept_item, kept_items, other_ats, own_items, saved_items, section_items, sections_items, setup_items}
 use Rattle.livemd_format.proofs.Tidiness.{AreTidyCells, AreTidyKept, AreTidySections, IsFound, IsTidyBook, IsTidyCode, IsTidyKept, IsTidyOwn, IsTidySaved, IsTidySection}
+use Rattle.livemd_format.proofs.Walking.{notebook_is_walked, notices_are_walked}
 
 -- what items add to a draft, settled
 abbrev run : Draft → List Item → Draft
@@ -282,8 +284,9 @@ pub book_notebook : (n : Parts) (ats : List ℕ) → IsTidyBook n → n ≡ note
 book_notebook n ats h =
     let cells : 1 + length (flat_map cells_of n.sections) ≡ n.next_cell = omega (arith, h.next_cell) in
     let sections : 1 + length n.sections ≡ n.next_section = omega (arith, h.next_section) in
-    sym (ap finished (book_drafted n ats h)
-    ∙ book_same n (chars (encode_utf8_all n.name)) (cell_of 0 cell.Setup n.setup.source n.setup.before n.setup.saved) (1 + length (flat_map cells_of n.sections)) (1 + length n.sections) h.name.text (setup_same n.setup h.setup_number h.setup_kind) h.bin cells sections)
+    sym (notebook_is_walked (book_items n ats)
+    ∙ (ap finished (book_drafted n ats h)
+    ∙ book_same n (chars (encode_utf8_all n.name)) (cell_of 0 cell.Setup n.setup.source n.setup.before n.setup.saved) (1 + length (flat_map cells_of n.sections)) (1 + length n.sections) h.name.text (setup_same n.setup h.setup_number h.setup_kind) h.bin cells sections))
 
 pub book_notices : (n : Parts) (ats : List ℕ) → IsTidyBook n → [] ≡ notices_of (book_items n ats)
-book_notices n ats h = sym (ap (λ d. d.notices) (book_drafted n ats h))
+book_notices n ats h = sym (notices_are_walked (book_items n ats) ∙ ap (λ d. d.notices) (book_drafted n ats h))

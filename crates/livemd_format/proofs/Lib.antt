@@ -11,4 +11,5 @@ pub mod TidyBooks
 mod TidyTexts
 pub mod Trimming
 pub mod Twice
+pub mod Walking
 mod Worked

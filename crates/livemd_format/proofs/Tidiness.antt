@@ -13,7 +13,7 @@ use Rattle.livemd_lines.specs.declared.metadata.Metadata.TheVariants.{Stamp, Unk
 use Rattle.livemd_lines.specs.Lines.{drop_end, drop_front, is_blank, is_space, is_space_or_tab, joined, lines}
 use Rattle.livemd_lines.specs.Meanings.{metadata_of}
 use Rattle.livemd_lines.specs.Written.{IsInfo, IsLine, open_behind}
-use Rattle.livemd_format.specs.Draft.{stem_at}
+use Rattle.livemd_format.specs.Made.{stem_at}
 use Rattle.livemd_format.specs.RoundTrip.{EndsWithoutStamp}
 use Rattle.livemd_format.specs.Tidy.{number_from, pieces}
 
