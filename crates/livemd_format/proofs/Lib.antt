@@ -1,9 +1,11 @@
 pub mod Accepting
+mod Adding
 mod BookLines
 mod Books
 mod Characters
 mod Drafting
 mod LineKinds
+mod OneMore
 pub mod ReadBack
 mod Steps
 mod Tidiness
