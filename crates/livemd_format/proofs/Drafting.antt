@@ -16,12 +16,15 @@ use Rattle.blanks.specs.Blanks.{is_empty}
 use Rattle.livemd_lines.specs.Meanings.{metadata_of}
 use Rattle.livemd_format.specs.Items as item
 use Rattle.livemd_format.specs.Items.{Item}
-use Rattle.livemd_format.specs.Draft.{Draft, add_cell, add_last_output, add_output, drafted, finished, notebook_of, notices_of, on_last, take_branch, with_cell, with_item, with_output, with_section, with_some_section}
+use Rattle.livemd_format.specs.Made.{notebook_of, notices_of}
 use Rattle.livemd_format.specs.RoundTrip.{EndsWithoutStamp}
 use Rattle.livemd_format.specs.Settled.{settle, settled}
 use Rattle.livemd_format.specs.Tidy.{is_markdown}
+use Rattle.livemd_format.specs.Walk.{Draft, drafted, finished, take_branch, with_item}
+use Rattle.livemd_format.proofs.Adding.{cell_added, cell_of, output_added, parts_at}
 use Rattle.livemd_format.proofs.Books.{book_items, branch_items, break_items, cell_items, first_at, kept_item, kept_items, other_ats, own_items, saved_items, section_items, sections_items, setup_items}
 use Rattle.livemd_format.proofs.Tidiness.{AreTidyCells, AreTidyKept, AreTidySections, IsFound, IsTidyBook, IsTidyCode, IsTidyKept, IsTidyOwn, IsTidySaved, IsTidySection}
+use Rattle.livemd_format.proofs.Walking.{notebook_is_walked, notices_are_walked}
 
 -- what items add to a draft, settled
 abbrev run : Draft → List Item → Draft
@@ -32,10 +35,6 @@ abbrev draft : Parts → Option ℕ → List (List ℕ) → Draft
 draft n parent waiting = record { parts = n; parent = parent; waiting = waiting; notices = [] }
 
 -- ---- kept lines
-
-not_nothing : {X : Type 0} (xs : List X) (x : X) (ys : List X) → is_empty (xs ++ x ∷ ys) ≡ false
-not_nothing [] x ys = refl
-not_nothing (y ∷ xs) x ys = refl
 
 some_left : {X : Type 0} (xs ys : List X) → is_empty ys ≡ false → is_empty (xs ++ ys) ≡ false
 some_left [] ys h = h
@@ -74,36 +73,9 @@ run_last n o w (l ∷ k ∷ ls) h s =
 
 -- ---- cells
 
-on_last_at : {X : Type 0} (f : X → X) (xs : List X) (x : X) → on_last f (xs ++ x ∷ []) ≡ xs ++ f x ∷ []
-on_last_at f [] x = refl
-on_last_at f (y ∷ []) x = refl
-on_last_at f (y ∷ z ∷ xs) x = ap (λ w. y ∷ w) (on_last_at f (z ∷ xs) x)
-
--- the notebook with these sections and numbers
-abbrev parts_at : Parts → List Section → ℕ → ℕ → Parts
-parts_at n ss next_cell next_section = record n { sections = ss; next_cell = next_cell; next_section = next_section }
-
 -- the draft whose last section has these cells
 abbrev at_cells : Parts → List Section → Section → List Cell → ℕ → ℕ → List (List ℕ) → Draft
 at_cells n front s cs next_cell next_section w = draft (parts_at n (front ++ record s { cells = cs } ∷ []) next_cell next_section) None w
-
-abbrev cell_of : ℕ → Kind → List ℕ → List (List ℕ) → List Saved → Cell
-cell_of id kind source before saved = record { id = id; kind = kind; source = source; before = before; saved = saved }
-
-cell_added : (n : Parts) (front : List Section) (s : Section) (cs : List Cell) (nc ns : ℕ) (kind : Kind) (source : List ℕ) (w : List (List ℕ))
-    → with_cell kind source w (with_some_section (parts_at n (front ++ record s { cells = cs } ∷ []) nc ns)) ≡ parts_at n (front ++ record s { cells = cs ++ cell_of nc kind source w [] ∷ [] } ∷ []) (nc + 1) ns
-cell_added n front s cs nc ns kind source w =
-    let p : Parts = parts_at n (front ++ record s { cells = cs } ∷ []) nc ns in
-    ap (λ (b : Bool). with_cell kind source w (cond b (with_section (codes "Section") [] None p) p)) (not_nothing front (record s { cells = cs }) [])
-    ∙ ap (λ ss. parts_at n ss (nc + 1) ns) (on_last_at (add_cell (cell_of nc kind source w [])) front (record s { cells = cs }))
-
-output_added : (n : Parts) (front : List Section) (s : Section) (cs : List Cell) (c : Cell) (nc ns : ℕ) (o : Saved)
-    → with_output o (parts_at n (front ++ record s { cells = cs ++ c ∷ [] } ∷ []) nc ns) ≡ parts_at n (front ++ record s { cells = cs ++ add_output o c ∷ [] } ∷ []) nc ns
-output_added n front s cs c nc ns o =
-    let p : Parts = parts_at n (front ++ record s { cells = cs ++ c ∷ [] } ∷ []) nc ns in
-    ap (λ (b : Bool). cond b (record p { setup = add_output o p.setup }) (record p { sections = on_last (add_last_output o) p.sections })) (not_nothing front (record s { cells = cs ++ c ∷ [] }) [])
-    ∙ (ap (λ ss. parts_at n ss nc ns) (on_last_at (add_last_output o) front (record s { cells = cs ++ c ∷ [] }))
-    ∙ ap (λ ds. parts_at n (front ++ record s { cells = ds } ∷ []) nc ns) (on_last_at (add_output o) cs c))
 
 saved_same : (o : Saved) (info text : List ℕ) → info ≡ o.info → text ≡ o.text → record { info = info; text = text } ≡ o
 saved_same o info text e f = ap (λ i. record { info = i; text = text }) e ∙ ap (λ t. record { info = o.info; text = t }) f
@@ -282,8 +254,9 @@ pub book_notebook : (n : Parts) (ats : List ℕ) → IsTidyBook n → n ≡ note
 book_notebook n ats h =
     let cells : 1 + length (flat_map cells_of n.sections) ≡ n.next_cell = omega (arith, h.next_cell) in
     let sections : 1 + length n.sections ≡ n.next_section = omega (arith, h.next_section) in
-    sym (ap finished (book_drafted n ats h)
-    ∙ book_same n (chars (encode_utf8_all n.name)) (cell_of 0 cell.Setup n.setup.source n.setup.before n.setup.saved) (1 + length (flat_map cells_of n.sections)) (1 + length n.sections) h.name.text (setup_same n.setup h.setup_number h.setup_kind) h.bin cells sections)
+    sym (notebook_is_walked (book_items n ats)
+    ∙ (ap finished (book_drafted n ats h)
+    ∙ book_same n (chars (encode_utf8_all n.name)) (cell_of 0 cell.Setup n.setup.source n.setup.before n.setup.saved) (1 + length (flat_map cells_of n.sections)) (1 + length n.sections) h.name.text (setup_same n.setup h.setup_number h.setup_kind) h.bin cells sections))
 
 pub book_notices : (n : Parts) (ats : List ℕ) → IsTidyBook n → [] ≡ notices_of (book_items n ats)
-book_notices n ats h = sym (ap (λ d. d.notices) (book_drafted n ats h))
+book_notices n ats h = sym (notices_are_walked (book_items n ats) ∙ ap (λ d. d.notices) (book_drafted n ats h))

@@ -1,9 +1,11 @@
 pub mod Accepting
+mod Adding
 mod BookLines
 mod Books
 mod Characters
 mod Drafting
 mod LineKinds
+mod OneMore
 pub mod ReadBack
 mod Steps
 mod Tidiness
@@ -11,4 +13,5 @@ pub mod TidyBooks
 mod TidyTexts
 pub mod Trimming
 pub mod Twice
+pub mod Walking
 mod Worked

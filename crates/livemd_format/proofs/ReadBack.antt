@@ -2,7 +2,7 @@
 use Rattle.std.proofs.Common.{◌≡◌, [], sym, ap, ◌∙◌}
 use Rattle.notebook.specs.declared.parts.Parts.{Parts}
 use Rattle.notebook.specs.Rules.{IsNotebook}
-use Rattle.livemd_format.specs.Draft.{notebook_of, notices_of}
+use Rattle.livemd_format.specs.Made.{notebook_of, notices_of}
 use Rattle.livemd_format.specs.Reads.{Reads, items_of}
 use Rattle.livemd_format.specs.RoundTrip.{AreTexts, IsPlain, ReadsBack}
 use Rattle.livemd_format.specs.Tidy.{tidied}

@@ -14,7 +14,7 @@ use Rattle.blanks.specs.Blanks.{drop_end, drop_front, is_blank, is_space, is_spa
 use Rattle.livemd_lines.specs.Lines.{joined, lines}
 use Rattle.livemd_lines.specs.Meanings.{metadata_of}
 use Rattle.livemd_lines.specs.Written.{IsInfo, IsLine, open_behind}
-use Rattle.livemd_format.specs.Draft.{stem_at}
+use Rattle.livemd_format.specs.Made.{stem_at}
 use Rattle.livemd_format.specs.RoundTrip.{EndsWithoutStamp}
 use Rattle.livemd_format.specs.Tidy.{number_from, pieces}
 

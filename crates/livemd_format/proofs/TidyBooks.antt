@@ -14,7 +14,7 @@ use Rattle.notebook.specs.declared.parts.Kind.TheVariants as cell
 use Rattle.notebook.specs.Book.{cells_of, section_cells}
 use Rattle.notebook.specs.Rules.{IsNotebook, section_number, AreDistinct, IsSectionKind, IsSectionCell, IsParentAmong, ParentsStand}
 use Rattle.blanks.specs.Blanks.{is_empty}
-use Rattle.livemd_format.specs.Draft.{stem_at}
+use Rattle.livemd_format.specs.Made.{stem_at}
 use Rattle.livemd_format.specs.RoundTrip.{AreCellTexts, AreOutputTexts, AreSectionTexts, AreTexts, HasPlainInfo, IsPlain, IsPlainCell, IsPlainSection}
 use Rattle.livemd_format.specs.Tidy.{changed, clean, is_markdown, number_from, numbered, stays, tidied, tidy_cell, tidy_cells, tidy_markdown, tidy_outputs, tidy_saved, tidy_section, tidy_sections, tidy_source}
 use Rattle.livemd_format.proofs.Tidiness.{AreTidyCells, AreTidySections, IsFound, IsTidyBook, IsTidyCell, IsTidyCode, IsTidyOwn, IsTidySaved}

@@ -12,7 +12,7 @@ use Rattle.notebook.specs.declared.parts.Kind.TheVariants as cell
 use Rattle.notebook.specs.Book.{untitled}
 use Rattle.livemd_format.specs.declared.notices.Notice.{Notice}
 use Rattle.livemd_format.specs.declared.notices.NoticeKind.TheVariants.{BadBranch, Misplaced}
-use Rattle.livemd_format.specs.Draft.{notebook_of, notices_of}
+use Rattle.livemd_format.specs.Made.{notebook_of, notices_of}
 use Rattle.livemd_format.specs.Reads.{items_of}
 use Rattle.livemd_format.specs.Tidy.{tidied, tidy_markdown, tidy_name, clean}
 use Rattle.livemd_format.specs.Write.{break_line, branch_line, force_line, output_line, text_of}

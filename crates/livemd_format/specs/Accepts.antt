@@ -3,7 +3,7 @@ use Rattle.std.specs.Prelude.{◌⊎◌, ℕ, ◌<◌, ◌≤◌, List, length, 
 use Rattle.notebook.specs.declared.parts.Parts.{Parts}
 use Rattle.notebook.specs.Book.{section_cells}
 use Rattle.notebook.specs.Rules.{code_count}
-use Rattle.livemd_format.specs.Draft.{notebook_of}
+use Rattle.livemd_format.specs.Made.{notebook_of}
 use Rattle.livemd_format.specs.Reads.{items_of}
 
 -- at most 8,388,608 bytes

@@ -1,8 +1,9 @@
 pub mod Accepts
-pub mod Draft
 pub mod Items
+pub mod Made
 pub mod Reads
 pub mod RoundTrip
 pub mod Settled
 pub mod Tidy
+pub mod Walk
 pub mod Write

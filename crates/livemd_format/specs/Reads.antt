@@ -5,7 +5,7 @@ use Rattle.livemd_lines.specs.Lines.{lines}
 use Rattle.livemd_lines.specs.Kinds.{kinds_of}
 use Rattle.livemd_format.specs.declared.notices.Notice.{Notice}
 use Rattle.livemd_format.specs.Items.{Item, items}
-use Rattle.livemd_format.specs.Draft.{notebook_of, notices_of}
+use Rattle.livemd_format.specs.Made.{notebook_of, notices_of}
 
 -- the items of all lines, with nothing cut before
 abbrev pub items_of : List ℕ → List Item

@@ -1,7 +1,6 @@
--- The notebook and the notices that settled items make, one after the other.
-use Rattle.std.specs.Prelude.{ℕ, ◌+◌, if◌then◌else◌, List, [], ◌∷◌, ◌++◌, Option, Some, None, codes, chars, slice_get}
+-- The reader's walk over settled items: what it has made so far, and what each item adds to that.
+use Rattle.std.specs.Prelude.{ℕ, ◌+◌, if◌then◌else◌, List, [], ◌∷◌, ◌++◌, Option, Some, None, codes, chars}
 use Rattle.std.specs.List.{fold}
-use Rattle.std.specs.Option.{option_and_then}
 use Rattle.notebook.specs.declared.parts.Cell.{Cell}
 use Rattle.notebook.specs.declared.parts.Saved.{Saved}
 use Rattle.notebook.specs.declared.parts.Section.{Section}
@@ -9,12 +8,12 @@ use Rattle.notebook.specs.declared.parts.Parts.{Parts}
 use Rattle.notebook.specs.declared.parts.Kind.{Kind}
 use Rattle.notebook.specs.declared.parts.Kind.TheVariants as cell
 use Rattle.notebook.specs.Book.{untitled}
-use Rattle.notebook.specs.Flow.{is_main}
 use Rattle.blanks.specs.Blanks.{is_empty}
 use Rattle.livemd_format.specs.declared.notices.Notice.{Notice}
 use Rattle.livemd_format.specs.declared.notices.NoticeKind.{NoticeKind}
 use Rattle.livemd_format.specs.declared.notices.NoticeKind.TheVariants.{BadBranch, Misplaced}
 use Rattle.livemd_format.specs.Items as item
+use Rattle.livemd_format.specs.Made.{stem_at}
 use Rattle.livemd_format.specs.Settled.{settled}
 
 -- the notebook so far; the section from which the next one branches, if it does; the kept lines that wait for a name, a
@@ -50,14 +49,6 @@ with_some_section n = if is_empty n.sections then with_section (codes "Section")
 -- a section takes the kept lines that wait, and branches where a branch line says so
 abbrev pub take_section : List ℕ → Draft → Draft
 take_section name d = record d { parts = with_section name d.waiting d.parent d.parts; parent = None; waiting = [] }
-
--- the number of a section from which others may branch: one that doesn't branch itself
-abbrev pub stem_number : Section → Option ℕ
-stem_number s = if is_main s then Some s.id else None
-
--- the number of the section with the index, counted from 0, if others may branch from it
-abbrev pub stem_at : ℕ → List Section → Option ℕ
-stem_at index ss = option_and_then stem_number (slice_get ss index)
 
 -- one notice more
 abbrev pub with_notice : ℕ → NoticeKind → Draft → Draft
@@ -132,12 +123,6 @@ with_item d (item.Misplaced number) = with_notice number Misplaced d
 abbrev pub drafted : List item.Item → Draft
 drafted is = fold with_item new_draft (settled is)
 
--- the notebook: kept lines that nothing came for stand behind all
+-- the notebook of a draft: kept lines that nothing came for stand behind all
 abbrev pub finished : Draft → Parts
 finished d = record d.parts { after = d.waiting }
-
-abbrev pub notebook_of : List item.Item → Parts
-notebook_of is = finished (drafted is)
-
-abbrev pub notices_of : List item.Item → List Notice
-notices_of is = (drafted is).notices
