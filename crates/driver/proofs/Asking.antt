@@ -44,7 +44,8 @@ use Rattle.driver.specs.Lines.{joined_words, not_joined_words, left_words, raw_j
 use Rattle.driver.specs.Turns.{Turn, Made, turns_from, AreMarks}
 use Rattle.driver.specs.Player.{Game, Stage, Sent, say, name_of, joined, raw_joined, play_line, send_next, without_front}
 use Rattle.driver.specs.Headline.{AllOfRun, AllAnswered, AllFair, IsFair, IsFollowed, TakeReadyLanes, call_of}
-use Rattle.driver.specs.Clients.{AreMirrored, AreApart}
+use Rattle.world.specs.Sound.{AreApart}
+use Rattle.driver.specs.Clients.{AreMirrored}
 use Rattle.driver.specs.Standing.{Stands, HasDone, HasPlayed, HasAsked, HasAdmitted, world_of, entries_of, turns_of}
 use Rattle.driver.specs.declared.player.Player.{Player}
 use Rattle.driver.proofs.Marks.{marks-longer, turns-made, run-push, asked-push, helped-push, answered-more, fair-push, same-call}

@@ -24,7 +24,8 @@ use Rattle.driver.specs.Lines.{received_words, sync_words}
 use Rattle.driver.specs.Turns.{Turn, Looked, turns_from, AreMarks}
 use Rattle.driver.specs.Player.{Game, Stage, Marked, or_none, looks, say, say_text, states_at, with_clients, name_of, how_many, unseen, receive_some, receive_all, send_each, round, rounds, all_sent}
 use Rattle.driver.specs.Headline.{AllOfRun, AllAnswered, AllFair, TakeReadyLanes, call_of}
-use Rattle.driver.specs.Clients.{AreMirrored, AreApart, IsAt, HasReceived, IsLawful}
+use Rattle.world.specs.Sound.{AreApart}
+use Rattle.driver.specs.Clients.{AreMirrored, IsAt, HasReceived, IsLawful}
 use Rattle.driver.specs.Standing.{Stands, HasDone, HasPlayed, HasRound, HasReceivedSome, world_of, entries_of, turns_of}
 use Rattle.driver.specs.declared.player.Player.{Player}
 use Rattle.driver.proofs.Marks.{marks-push, turns-looked}

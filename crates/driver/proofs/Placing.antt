@@ -9,7 +9,8 @@ use Rattle.client_sync.specs.Client.{Client as Holder, client_of, put_client, wi
 use Rattle.client_sync.specs.Stands.{Mirrors, number_in}
 use Rattle.client_sync.specs.declared.client.Client.{Client}
 use Rattle.world.specs.Claims.{number_of}
-use Rattle.driver.specs.Clients.{AreMirrored, AreApart, IsAt, IsPlace, later, place_in}
+use Rattle.world.specs.Sound.{AreApart}
+use Rattle.driver.specs.Clients.{AreMirrored, IsAt, IsPlace, later, place_in}
 
 pub mirrored-append : (n0 : Parts) (xs : List Client) (cs : List Holder) (x : Client) (c : Holder) → AreMirrored n0 xs cs → Mirrors n0 x c → AreMirrored n0 (xs ++ x ∷ []) (cs ++ c ∷ [])
 mirrored-append n0 [] [] x c m y = (y, tt)

@@ -29,7 +29,8 @@ use Rattle.driver.specs.Lines.{no_client_words, edit_words, posted_words, not_po
 use Rattle.driver.specs.Turns.{Turn, turns_from, AreMarks}
 use Rattle.driver.specs.Player.{Game, Stage, say, with_clients, name_of, with_edited, play_line, posted, with_report, send_or_nothing, pending_shown}
 use Rattle.driver.specs.Headline.{AllOfRun, AllAnswered, AllFair, TakeReadyLanes, call_of}
-use Rattle.driver.specs.Clients.{AreMirrored, AreApart, IsAt, IsPlace, place_in}
+use Rattle.world.specs.Sound.{AreApart}
+use Rattle.driver.specs.Clients.{AreMirrored, IsAt, IsPlace, place_in}
 use Rattle.driver.specs.Standing.{Stands, HasDone, HasPlayed, HasEdited, HasPosted, HasPostedIf, HasReported, HasReportedSo, world_of, entries_of, turns_of}
 use Rattle.driver.specs.declared.player.Player.{Player}
 use Rattle.driver.proofs.Placing.{placed}

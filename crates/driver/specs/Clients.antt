@@ -1,9 +1,8 @@
 -- The clients in memory, and what they stand for.
-use Rattle.std.specs.Prelude.{◌≡◌, ◌<◌, ℕ, ◌+◌, ◌==◌, if◌then◌else◌, false, List, [], ◌∷◌, length, take, remove, get_or, slice_set, Option, Some, None}
+use Rattle.std.specs.Prelude.{◌≡◌, ◌<◌, ℕ, ◌+◌, ◌==◌, if◌then◌else◌, List, [], ◌∷◌, length, take, remove, get_or, slice_set, Option, Some, None}
 use Rattle.notebook.specs.declared.parts.Parts.{Parts}
 use Rattle.notebook.specs.Rules.{IsNotebook}
 use Rattle.session_ops.specs.declared.entry.Entry.{Entry}
-use Rattle.session_ops.specs.Numbers.{is_in}
 use Rattle.session_ops.specs.State.{Legal}
 use Rattle.client_sync.specs.Client.{Client as Holder, received, client_of, put_client, without_client}
 use Rattle.client_sync.specs.Stands.{Mirrors}
@@ -26,11 +25,6 @@ later n (Some at) = Some (n + at)
 abbrev pub place_in : ℕ → List ℕ → Option ℕ
 place_in n [] = None
 place_in n (m ∷ ms) = if m == n then Some 0 else later 1 (place_in n ms)
-
--- no number stands twice
-abbrev pub AreApart : List ℕ → Type 0
-AreApart [] = Unit {0}
-AreApart (n ∷ ns) = (is_in n ns ≡ false) × AreApart ns
 
 -- the client of the number stands at the place; another may be put there in its stead, and it may be taken out
 pub record IsAt (n0 : Parts) (xs : List Client) (cs : List Holder) (n at : ℕ) : Type 0 where

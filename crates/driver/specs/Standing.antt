@@ -25,7 +25,8 @@ use Rattle.driver.specs.Lines.{sent_words, edit_words, error_words, received_wor
 use Rattle.driver.specs.Turns.{Turn, turns_from, AreMarks}
 use Rattle.driver.specs.Player.{Game, Stage, play_line, round, receive_some}
 use Rattle.driver.specs.Headline.{AllOfRun, AllAnswered, AllFair, TakeReadyLanes, call_of}
-use Rattle.driver.specs.Clients.{AreMirrored, AreApart}
+use Rattle.world.specs.Sound.{AreApart}
+use Rattle.driver.specs.Clients.{AreMirrored}
 use Rattle.driver.specs.declared.player.Player.{Player}
 
 -- a history with its clients

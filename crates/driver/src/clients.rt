@@ -7,7 +7,8 @@ ghost use Rattle.world.specs.Claims.{number_of};
 ghost use Rattle.client_sync.specs.Stands.{Mirrors, number_in};
 ghost use Rattle.world.specs.Waiting.{IsHonest};
 ghost use Rattle.driver.specs.Player.{Game, all_sent, receive_all, unseen};
-ghost use Rattle.driver.specs.Clients.{AreMirrored, AreApart, HasReceived, IsLawful, place_in};
+ghost use Rattle.world.specs.Sound.{AreApart};
+ghost use Rattle.driver.specs.Clients.{AreMirrored, HasReceived, IsLawful, place_in};
 
 use client_sync::Client;
 use session_ops::Entry;

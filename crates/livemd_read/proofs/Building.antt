@@ -9,7 +9,7 @@ use Rattle.notebook.specs.declared.parts.Section.{Section}
 use Rattle.notebook.specs.declared.parts.Parts.{Parts}
 use Rattle.notebook.specs.declared.parts.Kind.{Kind}
 use Rattle.blanks.specs.Blanks.{is_empty}
-use Rattle.livemd_format.specs.Draft.{add_cell, add_last_output, add_output, on_last, with_cell, with_output, with_section, with_some_section}
+use Rattle.livemd_format.specs.Walk.{add_cell, add_last_output, add_output, on_last, with_cell, with_output, with_section, with_some_section}
 
 -- the last element written
 set_last : {X : Type 0} (f : X → X) (xs : List X) (d : X) → 0 < length xs → set xs (length xs - 1) (f (get_or xs (length xs - 1) d)) ≡ on_last f xs

@@ -4,7 +4,7 @@ use Rattle.std.specs.Prelude.{MatchResult}
 use Rattle.notebook.specs.declared.parts.Parts.{Parts}
 use Rattle.livemd_format.specs.declared.notices.Notice.{Notice}
 use Rattle.livemd_format.specs.Accepts.{IsAccepted, HasFewCells, HasManyCells}
-use Rattle.livemd_format.specs.Draft.{notebook_of}
+use Rattle.livemd_format.specs.Made.{notebook_of}
 use Rattle.livemd_format.specs.Reads.{Reads, items_of}
 use Rattle.livemd_read.specs.declared.types.BookError.{BookError}
 use Rattle.livemd_read.specs.declared.types.BookError.TheVariants.{TooLarge, NotUtf8, TooManySections, TooManyCells, OutOfMemory}

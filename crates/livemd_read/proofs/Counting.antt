@@ -3,7 +3,7 @@ use Rattle.std.proofs.Common.{◌≡◌, ◌⊎◌, inl, inr, ℕ, ◌+◌, max,
 use Rattle.std.specs.Borrow.{Bor}
 use Rattle.notebook.specs.Book.{section_cells}
 use Rattle.notebook.specs.Rules.{code_count}
-use Rattle.livemd_format.specs.Draft.{Draft, with_item}
+use Rattle.livemd_format.specs.Walk.{Draft, with_item}
 use Rattle.livemd_read.specs.declared.items.Item.{Item}
 use Rattle.livemd_read.specs.declared.items.Item.TheVariants.{Name, Section, Setup, Code, Markdown, Saved, Kept, Stamp, Branch, Dropped, Misplaced}
 use Rattle.livemd_read.specs.Views.{item_of}

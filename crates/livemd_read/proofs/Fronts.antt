@@ -4,7 +4,7 @@ use Rattle.std.specs.List.{fold}
 use Rattle.std.proofs.lemmas.List.{map-append, take-append-drop}
 use Rattle.notebook.specs.Book.{section_cells}
 use Rattle.livemd_format.specs.Accepts.{HasFewSections, HasFewCells}
-use Rattle.livemd_format.specs.Draft.{Draft, new_draft, with_item}
+use Rattle.livemd_format.specs.Walk.{Draft, new_draft, with_item}
 use Rattle.livemd_read.specs.declared.draft.Draft as code
 use Rattle.livemd_read.specs.declared.items.Item.{Item}
 use Rattle.livemd_read.specs.Views.{draft_of, item_of, views}

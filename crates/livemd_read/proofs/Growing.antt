@@ -15,7 +15,8 @@ use Rattle.notebook.specs.Book.{cells_of, section_cells}
 use Rattle.notebook.specs.Rules.{code_count, code_weight}
 use Rattle.blanks.specs.Blanks.{is_empty}
 use Rattle.livemd_format.specs.Items as item
-use Rattle.livemd_format.specs.Draft.{Draft, add_cell, add_last_output, add_output, on_last, stem_at, take_branch, with_cell, with_item, with_output, with_section, with_some_section}
+use Rattle.livemd_format.specs.Made.{stem_at}
+use Rattle.livemd_format.specs.Walk.{Draft, add_cell, add_last_output, add_output, on_last, take_branch, with_cell, with_item, with_output, with_section, with_some_section}
 
 -- ---- the last element
 

@@ -15,7 +15,8 @@ use Rattle.notebook.specs.Rules.{IsNotebook, cell_number, section_number, AreDis
 use Rattle.blanks.specs.Blanks.{is_empty}
 use Rattle.livemd_format.specs.Accepts.{HasFewSections, HasFewCells}
 use Rattle.livemd_format.specs.Items as item
-use Rattle.livemd_format.specs.Draft.{Draft, add_cell, add_last_output, finished, new_draft, on_last, stem_at, stem_number, take_branch, take_cell, with_cell, with_item, with_output, with_section, with_some_section}
+use Rattle.livemd_format.specs.Made.{stem_at, stem_number}
+use Rattle.livemd_format.specs.Walk.{Draft, add_cell, add_last_output, finished, new_draft, on_last, take_branch, take_cell, with_cell, with_item, with_output, with_section, with_some_section}
 use Rattle.livemd_read.proofs.Growing.{cells-cell, cells-section, map-on_last, map-output, next_cell-some}
 
 -- ---- numbers that count up

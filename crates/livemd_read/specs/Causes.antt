@@ -2,7 +2,7 @@
 use Rattle.std.specs.Prelude.{◌≡◌, ℕ, ◌<◌, List, length, IsUtf8}
 use Rattle.std.specs.Str.Lossy.{utf8_valid_len}
 use Rattle.livemd_format.specs.Accepts.{HasFewSections, HasManyCells, IsBookText, IsSmall}
-use Rattle.livemd_format.specs.Draft.{notebook_of}
+use Rattle.livemd_format.specs.Made.{notebook_of}
 use Rattle.livemd_format.specs.Reads.{items_of}
 use Rattle.livemd_read.specs.declared.types.BookError.{BookError}
 use Rattle.livemd_read.specs.declared.types.BookError.TheVariants.{TooLarge, NotUtf8, TooManySections, TooManyCells, OutOfMemory}

@@ -2,7 +2,7 @@
 ghost use Rattle.std.specs.Prelude.{◌≡◌, IfOk};
 ghost use Rattle.std.specs.List.{fold};
 ghost use Rattle.livemd_format.specs.Accepts.{HasFewSections, HasFewCells};
-ghost use Rattle.livemd_format.specs.Draft.{finished, new_draft, with_item};
+ghost use Rattle.livemd_format.specs.Walk.{finished, new_draft, with_item};
 ghost use Rattle.livemd_read.specs.Views.{draft_of, views};
 
 use crate::draft::Draft;

@@ -3,7 +3,7 @@ ghost use Rattle.std.specs.Prelude.{◌≡◌, ◌+◌, ◌^◌, ◌<◌, ◌≤
 ghost use Rattle.std.specs.List.{fold};
 ghost use Rattle.notebook.specs.Book.{section_cells};
 ghost use Rattle.notebook.specs.Rules.{code_count};
-ghost use Rattle.livemd_format.specs.Draft.{new_draft, with_item, Draft};
+ghost use Rattle.livemd_format.specs.Walk.{new_draft, with_item, Draft};
 ghost use Rattle.livemd_read.specs.Views.{item_of, views};
 
 use crate::items::Item;

@@ -1,6 +1,7 @@
 //! The notebook and the notices that settled items make, one after the other.
 ghost use Rattle.std.specs.Prelude.{◌≡◌, ◌^◌, ◌<◌, [], length, chars, IfOk, OnOk};
-ghost use Rattle.livemd_format.specs.Draft.{add_last_output, keep, new_draft, stem_at, take_branch, take_cell, take_name, take_output, take_section, take_setup, with_cell, with_item, with_notice, with_output, with_section, with_some_section};
+ghost use Rattle.livemd_format.specs.Made.{stem_at};
+ghost use Rattle.livemd_format.specs.Walk.{add_last_output, keep, new_draft, take_branch, take_cell, take_name, take_output, take_section, take_setup, with_cell, with_item, with_notice, with_output, with_section, with_some_section};
 ghost use Rattle.livemd_read.specs.Views.{draft_of, item_of};
 
 use crate::items::Item;

@@ -1,7 +1,7 @@
 use Rattle.std.proofs.Common.{◌≡◌, sym, subst, ap}
 use Rattle.std.specs.List.{fold}
 use Rattle.notebook.specs.Rules.{IsNotebook}
-use Rattle.livemd_format.specs.Draft.{Draft, finished, new_draft, with_item}
+use Rattle.livemd_format.specs.Walk.{Draft, finished, new_draft, with_item}
 use Rattle.livemd_read.specs.Views.{views}
 use Rattle.livemd_read.proofs.Numbering.{IsDraft-items, IsNotebook-finished}
 use Rattle.livemd_read.proofs.build.built.Goals as goal

@@ -1,7 +1,7 @@
 use Rattle.std.proofs.Common.{◌≡◌, ◌≤◌, length, take}
 use Rattle.std.specs.List.{fold}
 use Rattle.notebook.specs.Book.{section_cells}
-use Rattle.livemd_format.specs.Draft.{new_draft, with_item}
+use Rattle.livemd_format.specs.Walk.{new_draft, with_item}
 use Rattle.livemd_read.specs.Views.{views}
 use Rattle.livemd_read.proofs.count.cell_count.Given as goal
 
