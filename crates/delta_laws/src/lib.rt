@@ -19,9 +19,8 @@ ghost use Rattle.delta_laws.specs.Pairs.{IsBothOrders, IsInTwo};
 
 mod room;
 
-pub use room::{composed, transformed};
-
 use delta::{ApplyError, Delta, Side, Step};
+pub use room::{composed, transformed};
 use std::alloc::{AllocError, Global};
 use utf16_text::{Text, unit_len};
 

@@ -12,7 +12,7 @@ ghost use Rattle.lanes.specs.Rows.{IsRow};
 use crate::walk::{has_cell, is_path, is_same_lane, own_cells};
 use crate::work::{Finished, Mark, Work};
 use ex_model::{Outcome, Shown};
-use notebook::{CellId, Lane, Notebook, Status, FlowCells, Validity};
+use notebook::{CellId, FlowCells, Lane, Notebook, Status, Validity};
 
 /// What is known of a cell. `shown` is what its last finished evaluation showed, also where that isn't
 /// valid any more.

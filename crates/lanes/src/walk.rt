@@ -8,7 +8,7 @@ ghost use Rattle.notebook.specs.Flow.{passed, is_cell};
 ghost use Rattle.notebook.specs.Validity.{same_path, same_passed};
 ghost use Rattle.lanes.specs.Work.{own_cells, same_lane, is_branch, stands_in};
 
-use notebook::{Cell, CellId, Lane, Notebook, Passed, Section, SectionId, FlowCells};
+use notebook::{Cell, CellId, FlowCells, Lane, Notebook, Passed, Section, SectionId};
 use plain_list::Items;
 use std::alloc::{AllocError, Global};
 

@@ -58,12 +58,15 @@ cut (i ∷ is) = at i (cut is) where
 
 -- behind a section item
 open_behind : (before : List Item) (name : List ℕ) (done : List Item) → list_any is_section done ≡ false → (s : Section) × IsOpen (before ++ item.Section name ∷ done) (sections_of before) s done
-open_behind before name done h = (section_by (sections_of before) (stretch name before []), record {
-  sections = sections_cut before name done h;
-  more = λ i e. ap sections_of (append_assoc before (item.Section name ∷ done) (i ∷ [])) ∙ sections_cut before name (done ++ i ∷ []) (none_more is_section done i h e);
-  kept = at_end_behind kept_line before name done;
-  outputs = λ i. ap (λ js. outputs (front js)) (append_assoc before (item.Section name ∷ done) (i ∷ [])) ∙ (ap outputs (no_front_more before name (done ++ i ∷ [])) ∙ ap outputs (sym (no_front_more before name done)));
-})
+open_behind before name done h = (
+  section_by (sections_of before) (stretch name before []),
+  record {
+    sections = sections_cut before name done h;
+    more = λ i e. ap sections_of (append_assoc before (item.Section name ∷ done) (i ∷ [])) ∙ sections_cut before name (done ++ i ∷ []) (none_more is_section done i h e);
+    kept = at_end_behind kept_line before name done;
+    outputs = λ i. ap (λ js. outputs (front js)) (append_assoc before (item.Section name ∷ done) (i ∷ [])) ∙ (ap outputs (no_front_more before name (done ++ i ∷ [])) ∙ ap outputs (sym (no_front_more before name done)));
+  },
+)
 
 -- the section of cells that no section item stands before
 abbrev own_section : Section
@@ -101,6 +104,7 @@ stage is = at (cut is) where
   in_front : list_any is_section is ≡ false → (b : Bool) → list_any is_cell is ≡ b → IsBefore is ⊎ ((ss : List Section) × (s : Section) × (done : List Item) × IsOpen is ss s done)
   in_front h true k = inr ([], own_section, is, open_own is h k)
   in_front h false k = inl (record { sections = h; cells = k })
+
   at : (list_any is_section is ≡ false) ⊎ ((before : List Item) × (name : List ℕ) × (done : List Item) × IsCut is before name done) → IsBefore is ⊎ ((ss : List Section) × (s : Section) × (done : List Item) × IsOpen is ss s done)
   at (inl h) = in_front h (list_any is_cell is) refl
   at (inr c) =
@@ -211,12 +215,16 @@ cell_put : (kind : Kind) (source : List ℕ) (is : List Item) (i : Item) → is_
 cell_put kind source is i e f c g h = at (stage is) where
   name : name_of is ≡ name_of (is ++ i ∷ [])
   name = sym (name_same is i g)
+
   setup : setup_source is ≡ setup_source (is ++ i ∷ [])
   setup = sym (setup_same is i h)
+
   saved : outputs (front is) ≡ outputs (front (is ++ i ∷ []))
   saved = sym (outputs_quiet is i e f)
+
   put : List Section → Parts
   put ss = with_cell kind (chars source) (kept_at_end is) (with_some_section (having (name_of is) (setup_source is) (outputs (front is)) ss))
+
   at : IsBefore is ⊎ ((ss : List Section) × (s : Section) × (done : List Item) × IsOpen is ss s done) → with_cell kind (chars source) (kept_at_end is) (with_some_section (book is)) ≡ book (is ++ i ∷ [])
   at (inl b) =
       let made : sections_of (is ++ i ∷ []) ≡ record own_section { cells = cell_of 1 kind (chars source) (kept_at_end is) [] ∷ [] } ∷ [] =
@@ -247,14 +255,19 @@ output_put_to : (info text : List ℕ) (is : List Item) → with_output (record 
 output_put_to info text is = at (stage is) where
   i : Item
   i = item.Saved info text
+
   shown : Saved
   shown = record { info = chars info; text = chars text }
+
   name : name_of is ≡ name_of (is ++ i ∷ [])
   name = sym (name_same is i refl)
+
   setup : setup_source is ≡ setup_source (is ++ i ∷ [])
   setup = sym (setup_same is i refl)
+
   put : List Section → Parts
   put ss = with_output shown (having (name_of is) (setup_source is) (outputs (front is)) ss)
+
   at : IsBefore is ⊎ ((ss : List Section) × (s : Section) × (done : List Item) × IsOpen is ss s done) → with_output shown (book is) ≡ book (is ++ i ∷ [])
   at (inl b) =
       let saved : outputs (front is) ++ shown ∷ [] ≡ outputs (front (is ++ i ∷ [])) = sym (outputs_front is i b refl) in
@@ -445,8 +458,7 @@ ready before (item.Code source) is (inr e) = absurd cc
 ready before (item.Markdown source) is (inl h) = h
 ready before (item.Markdown source) is (inr e) = absurd cc
 ready before (item.Branch number index) is s =
-    elim (section_next is) as (λ b. IsReady before (cond b (cond (branch_next is) item.Dropped (item.Branch number index)) (item.Misplaced number)))
-    [
+    elim (section_next is) as (λ b. IsReady before (cond b (cond (branch_next is) item.Dropped (item.Branch number index)) (item.Misplaced number))) [
       | true ↦ elim (branch_next is) as (λ b. IsReady before (cond b item.Dropped (item.Branch number index))) [ true ↦ tt | false ↦ tt ]
       | false ↦ tt
     ]
@@ -459,18 +471,18 @@ none_waits : (before : List Item) (i : Item) → indexes_at_end before ≡ [] �
 none_waits before i h e =
     let none : indexes_at_end before ++ option_to_list (branch_index i) ≡ [] = ap (λ ks. ks ++ option_to_list (branch_index i)) h ∙ ap (λ o. option_to_list o) e in
     at_end_more branch_index before i ∙ at (takes_lines i) (indexes_at_end before ++ option_to_list (branch_index i)) none where
-  at : (b : Bool) (ks : List ℕ) → ks ≡ [] → cond b [] ks ≡ []
-  at true ks none = refl
-  at false ks none = none
+      at : (b : Bool) (ks : List ℕ) → ks ≡ [] → cond b [] ks ≡ []
+      at true ks none = refl
+      at false ks none = none
 
 still_settled : (before : List Item) (i : Item) (is : List Item) → IsSettled before (i ∷ is) → IsSettled (before ++ settle i is ∷ []) is
 still_settled before (item.Section text) is s = inl (end_taken branch_index before (item.Section text) refl)
 still_settled before (item.Branch number index) is s =
     at s (section_next is) refl where
-  at : IsSettled before (item.Branch number index ∷ is) → (b : Bool) → section_next is ≡ b → IsSettled (before ++ settle (item.Branch number index) is ∷ []) is
-  at s true e = inr e
-  at (inr f) false e = inr f
-  at (inl h) false e = inl (ap (λ b. indexes_at_end (before ++ cond b (cond (branch_next is) item.Dropped (item.Branch number index)) (item.Misplaced number) ∷ [])) e ∙ none_waits before (item.Misplaced number) h refl)
+      at : IsSettled before (item.Branch number index ∷ is) → (b : Bool) → section_next is ≡ b → IsSettled (before ++ settle (item.Branch number index) is ∷ []) is
+      at s true e = inr e
+      at (inr f) false e = inr f
+      at (inl h) false e = inl (ap (λ b. indexes_at_end (before ++ cond b (cond (branch_next is) item.Dropped (item.Branch number index)) (item.Misplaced number) ∷ [])) e ∙ none_waits before (item.Misplaced number) h refl)
 still_settled before (item.Stamp line) [] (inl h) = inl (none_waits before item.Dropped h refl)
 still_settled before (item.Stamp line) (i ∷ is) (inl h) = inl (none_waits before (item.Kept line) h refl)
 still_settled before (item.Stamp line) is (inr e) = inr e

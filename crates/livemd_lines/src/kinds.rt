@@ -5,9 +5,9 @@ ghost use Rattle.livemd_lines.specs.Lines.{lines};
 ghost use Rattle.livemd_lines.specs.Kinds.{heading_kind, kind_of, kind_in, open_after, kinded, kinds_of};
 ghost use Rattle.livemd_lines.specs.Views.{kind_view, line_view, lines_view};
 
-use blanks::{trim_spaces, without_crs};
 use crate::fences::{Fence, opening_of};
 use crate::metadata::{Metadata, metadata_of};
+use blanks::{trim_spaces, without_crs};
 use std::alloc::{AllocError, Global};
 
 /// What a line is.

@@ -4,7 +4,6 @@
 //! contracts see it as the record of its names and lines.
 #![tactic(auto)]
 
-mod script;
 mod content;
 mod cut;
 mod delta_text;
@@ -14,11 +13,12 @@ mod line;
 mod names;
 mod ops;
 mod read;
+mod script;
 mod texts;
 mod words;
 
-pub use script::Script;
 pub use content::Content;
 pub use error::{LineFault, ScriptError};
 pub use line::{Count, ScriptLine};
 pub use read::read_script;
+pub use script::Script;

@@ -7,7 +7,7 @@ ghost use Rattle.script.specs.Words.{first_word, after_word};
 ghost use Rattle.script.specs.Next.{no_content, IsNext, IsUnfit, names_with};
 
 use crate::content::Content;
-use crate::error::{LineFault, LineError};
+use crate::error::{LineError, LineFault};
 use crate::form::next_line;
 use crate::words::split_word;
 use plain_list::Items;
