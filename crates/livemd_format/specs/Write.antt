@@ -1,5 +1,5 @@
 -- The text of a tidy notebook: blocks of lines, with an empty line between two.
-use Rattle.std.specs.Prelude.{ℕ, ◌+◌, ◌&&◌, max, not, Bool, true, if◌then◌else◌, List, [], ◌∷◌, ◌++◌, map, Option, Some, None, codes, decimal, encode_utf8_all}
+use Rattle.std.specs.Prelude.{ℕ, ◌+◌, ◌&&◌, max, not, Bool, true, false, if◌then◌else◌, List, [], ◌∷◌, ◌++◌, map, Option, Some, None, codes, decimal, encode_utf8_all}
 use Rattle.std.specs.List.{flat_map}
 use Rattle.notebook.specs.declared.parts.Cell.{Cell}
 use Rattle.notebook.specs.declared.parts.Saved.{Saved}
