@@ -4,7 +4,7 @@ use Rattle.std.specs.String.{string_bytes}
 use Rattle.blanks.specs.Blanks.{is_empty}
 use Rattle.livemd_format.specs.Items as item
 use Rattle.livemd_format.specs.Settled.{branch_next, section_next}
-use Rattle.livemd_format.specs.Draft as format
+use Rattle.livemd_format.specs.Walk as format
 use Rattle.livemd_read.specs.declared.done.Done.{Done}
 use Rattle.livemd_read.specs.declared.draft.Draft.{Draft}
 use Rattle.livemd_read.specs.declared.items.Item.{Item}
