@@ -6,7 +6,7 @@ ghost use Rattle.livemd_read.specs.Causes.{IsBookCause};
 
 use crate::build::built;
 use crate::count::{cell_count, code_cell_count, section_count};
-use crate::settle::settle;
+use crate::settle::settled_items;
 use crate::take::read_items;
 use crate::types::{BookError, Read};
 use limits::{MOST_CELLS, MOST_CODE_CELLS, MOST_FILE_BYTES, MOST_SECTIONS};
@@ -29,7 +29,7 @@ pub fn read(alloc: Global, bytes: &[u8]) -> Result<Read, BookError>
         }
     };
     let items = read_items(alloc, text)?;
-    let settled = settle(items);
+    let settled = settled_items(items);
     if section_count(&settled) > MOST_SECTIONS {
         return Err(BookError::TooManySections);
     }

@@ -1,6 +1,9 @@
 //! What branch lines and stamps are, by the items after them.
 ghost use Rattle.std.specs.Prelude.{◌≡◌, ◌<◌, ◌∷◌, [], List, length, slice_index_or, slice_set};
 ghost use Rattle.livemd_format.specs.Items as format;
+ghost use Rattle.std.specs.List.{fold};
+ghost use Rattle.livemd_format.specs.Made.{notebook_of, notices_of};
+ghost use Rattle.livemd_format.specs.Walk.{finished, new_draft, with_item};
 ghost use Rattle.livemd_format.specs.Settled.{is_between, is_branch, is_section, settle, settled};
 ghost use Rattle.livemd_read.specs.Views.{IsBehind, item_of, views};
 
@@ -120,7 +123,7 @@ fn put_at<'a>(items: &mut Vec<Item<'a>>, at: usize, item: Item<'a>)
 }
 
 /// The items, settled from the last to the first, each in its place.
-pub(crate) fn settle<'a>(mut items: Vec<Item<'a>>) -> Vec<Item<'a>>
+fn settle<'a>(mut items: Vec<Item<'a>>) -> Vec<Item<'a>>
     ensures { views result.items ≡ settled (views items.entry.items) }
 {
     let mut behind = Behind::nothing();
@@ -133,4 +136,16 @@ pub(crate) fn settle<'a>(mut items: Vec<Item<'a>>) -> Vec<Item<'a>>
         behind = before;
     }
     items
+}
+
+/// The items of a book, settled: what they make is the notebook and the notices of these items.
+pub(crate) fn settled_items<'a>(items: Vec<Item<'a>>) -> Vec<Item<'a>>
+    ensures sections { (notebook_of (views items.entry.items)).sections
+        ≡ (fold with_item new_draft (views result.items)).parts.sections }
+    ensures notebook { notebook_of (views items.entry.items)
+        ≡ finished (fold with_item new_draft (views result.items)) }
+    ensures notices { notices_of (views items.entry.items)
+        ≡ (fold with_item new_draft (views result.items)).notices }
+{
+    settle(items)
 }
