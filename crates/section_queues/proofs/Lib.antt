@@ -1,0 +1,6 @@
+pub mod Apart
+pub mod Earlier
+pub mod Lists
+pub mod Ready
+pub mod Starting
+pub mod Sweeping
