@@ -4,3 +4,4 @@ pub mod Lists
 pub mod Ready
 pub mod Starting
 pub mod Sweeping
+pub mod Worked
