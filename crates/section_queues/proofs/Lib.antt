@@ -1,0 +1,7 @@
+pub mod Apart
+pub mod Earlier
+pub mod Lists
+pub mod Ready
+pub mod Starting
+pub mod Sweeping
+pub mod Worked
