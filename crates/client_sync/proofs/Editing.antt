@@ -7,11 +7,12 @@ use Rattle.std.proofs.lemmas.Bool.Decides.{nat_tests}
 use Rattle.delta.specs.declared.Step.{Step}
 use Rattle.delta.specs.Steps.{inserted_by}
 use Rattle.delta.specs.Moves.{FitsText, text_after}
+use Rattle.delta_laws.specs.Misfits.{Misfit, Past, Splits, misfit}
 use Rattle.delta_laws.proofs.Laws.{delta_laws}
 use Rattle.notebook.specs.declared.parts.Cell.{Cell}
 use Rattle.notebook.specs.declared.parts.Parts.{Parts}
 use Rattle.notebook.specs.Book.{cells, found, resourced_cell, resourced, with_source}
-use Rattle.session_ops.specs.State.{State, state, Misfit, Past, Splits, revision, misfit}
+use Rattle.session_ops.specs.State.{State, state, revision}
 use Rattle.session_ops.specs.Snapshot.{HasRevisions, listed_revision}
 use Rattle.notebook.specs.Rules.{IsNotebook}
 use Rattle.client_sync.specs.Client.{Client as Holder, Pending, Done, EditTooLong, Unfit, pending_of, with_pending, own_source, delivered, edited, edited_cell, with_fitting, with_edit}
@@ -25,7 +26,7 @@ use Rattle.client_sync.specs.declared.edit_error.EditError.{EditError}
 use Rattle.client_sync.specs.declared.edit_error.EditError.TheVariants.{NoCell as NoCellError, EditTooLong as TooLongError, PastEnd, SplitsPair, OutOfMemory}
 use Rattle.client_sync.proofs.Books.{live-apart, with-one-source}
 use Rattle.client_sync.proofs.Edits.{with_buffer, buffer_option, buffered-same, buffered-other, pending-added, pending-beside}
-use Rattle.client_sync.proofs.Fitting.{misfit-from, found-number, one-source, fits-buffered, buffer-shows}
+use Rattle.client_sync.proofs.Fitting.{found-number, one-source, fits-buffered, buffer-shows}
 use Rattle.client_sync.proofs.Viewing.{found-held, known-revision}
 
 -- what an edit is judged by
@@ -66,7 +67,7 @@ edit-refused n0 c m cell d e is f = subst (λ x. IsEditCause x e) (sym (judged-b
 -- an edit without steps does nothing
 pub edit-empty : (n0 : Parts) (c : Client) (m : Holder) (cell : ℕ) (d : List Step) (text : List ℕ) → Mirrors n0 c m → IsOwnText c.book cell d text → d ≡ [] → edited n0 m cell d ≡ Done m
 edit-empty n0 c m cell d text is f none =
-    judged-by-own n0 c m cell d is ∙ (fitting m cell (revision (delivered n0 m) cell) d c.book f.own None f.there f.short (misfit-from d f.own.source f.fits) ∙ ap (λ x. with_fitting m cell (revision (delivered n0 m) cell) x None) none)
+    judged-by-own n0 c m cell d is ∙ (fitting m cell (revision (delivered n0 m) cell) d c.book f.own None f.there f.short (delta_laws.no_misfit d f.own.source f.fits) ∙ ap (λ x. with_fitting m cell (revision (delivered n0 m) cell) x None) none)
 
 -- a delta that isn't empty has steps
 pub has-steps : (d : List Step) → false ≡ (length d == 0) → d ≢ []
@@ -204,7 +205,7 @@ edit-done n0 c c' m k base d text is f some b edits texts same eb =
       m',
       (
         judged-by-own n0 c m k d is
-            ∙ (fitting m k rev d c.book f.own None f.there f.short (misfit-from d f.own.source f.fits)
+            ∙ (fitting m k rev d c.book f.own None f.there f.short (delta_laws.no_misfit d f.own.source f.fits)
             ∙ doing m k rev d some),
         edit-mirrors n0 c c' m m' k d text cell is shown.there shown.number
             (edit-shows m k rev d cell.source o refl (fits-over n0 c m k cell is shown.there) fits)

@@ -1,13 +1,11 @@
 -- When deltas fit, and what a delta that was applied makes of a cell's source.
 use Rattle.std.proofs.Common.{◌≡◌, ℕ, ◌+◌, ◌==◌, true, false, if◌then◌else◌, List, [], ◌∷◌, drop, Option, Some, None, refl, sym, ap, subst, ◌∙◌, arith}
-use Rattle.std.specs.Prelude.{nat_lt, nat_le}
+use Rattle.std.specs.Prelude.{nat_lt}
 use Rattle.std.proofs.lemmas.Bool.{eqb-true}
-use Rattle.std.proofs.lemmas.Bool.Decides.{nat_tests}
-use Rattle.utf16_text.specs.Units.{unit_count}
 use Rattle.delta.specs.declared.Step.{Step}
-use Rattle.delta.specs.Steps.{reach_of, broken_cut}
 use Rattle.delta.specs.Moves.{FitsText, text_after, transformed, composed, over}
 use Rattle.delta_laws.specs.Laws.{IsPairMoved}
+use Rattle.delta_laws.specs.Misfits.{Misfit, Past, Splits, misfit}
 use Rattle.delta_laws.proofs.Laws.{delta_laws}
 use Rattle.notebook.specs.declared.parts.Cell.{Cell}
 use Rattle.notebook.specs.declared.parts.Parts.{Parts}
@@ -16,29 +14,12 @@ use Rattle.session_ops.specs.declared.entry.Op.TheVariants.{Delta}
 use Rattle.session_ops.specs.declared.entry.Call.TheVariants.{Client as ByClient}
 use Rattle.session_ops.specs.declared.entry.Refusal.TheVariants.{NotJoined, TooNew, TooOld}
 use Rattle.session_ops.specs.declared.entry.Reply.TheVariants.{Applied, Refused}
-use Rattle.session_ops.specs.State.{State, Misfit, Past, Splits, taken_by, revision, least, misfit, split_misfit, reply, delta_reply, judged_by}
+use Rattle.session_ops.specs.State.{State, taken_by, revision, least, reply, delta_reply, judged_by}
 use Rattle.session_ops.specs.Numbers.{is_in}
 use Rattle.client_sync.specs.Client.{Pending, after_buffer, with_pending}
 use Rattle.client_sync.specs.Fits.{HasSource}
 use Rattle.client_sync.specs.Moving.{over_pending}
 use Rattle.client_sync.proofs.Edits.{shifted, with_buffer}
-
--- a delta fits a text where nothing keeps it from it
-split-none : (o : Option ℕ) → split_misfit o ≡ None → o ≡ None
-split-none None e = refl
-split-none (Some at) e = absurd (cc e)
-
-pub fits-from : (d : List Step) (t : List ℕ) → misfit d t ≡ None → FitsText d t
-fits-from d t e =
-    elim (nat_le (reach_of d) (unit_count t))
-    as (λ b. nat_le (reach_of d) (unit_count t) ≡ b → (if b then split_misfit (broken_cut d t) else Some (Past (unit_count t))) ≡ None → FitsText d t)
-    [ true ↦ λ le k. record { within = grind (arith, nat_tests, le); whole = split-none (broken_cut d t) k } | false ↦ λ le k. absurd (cc k) ]
-    refl
-    e
-
-pub misfit-from : (d : List Step) (t : List ℕ) → FitsText d t → misfit d t ≡ None
-misfit-from d t f =
-    ap (λ b. if b then split_misfit (broken_cut d t) else Some (Past (unit_count t))) {y = true} (grind (arith, nat_tests, f.within)) ∙ ap split_misfit f.whole
 
 -- a cell that is found has the number
 pub found-number : (k : ℕ) (cs : List Cell) (c : Cell) → found k cs ≡ Some c → c.id ≡ k
@@ -61,7 +42,7 @@ judged-taken : (s : State) (j rev : ℕ) (x y : List Step) (c : Cell) (why : Opt
 judged-taken s j rev x y c None there fits e =
     let same : y ≡ x = cc e in
     let next : revision s j + 1 ≡ rev = cc e in
-    record { own = c; there = there; fits = fits-from x c.source (subst (λ d. misfit d c.source ≡ None) same fits); next = sym next }
+    record { own = c; there = there; fits = delta_laws.fits x c.source (subst (λ d. misfit d c.source ≡ None) same fits); next = sym next }
 judged-taken s j rev x y c (Some (Past len)) there fits e = absurd (cc e)
 judged-taken s j rev x y c (Some (Splits at)) there fits e = absurd (cc e)
 

@@ -1,6 +1,6 @@
 -- What the errors of an edit and of a report tell.
 use Rattle.std.specs.Prelude.{◌≡◌, Option, None}
-use Rattle.session_ops.specs.State.{Past, Splits}
+use Rattle.delta_laws.specs.Misfits.{Past, Splits}
 use Rattle.client_sync.specs.declared.edit_error.EditError.{EditError}
 use Rattle.client_sync.specs.declared.edit_error.EditError.TheVariants.{NoCell, EditTooLong, PastEnd, SplitsPair, OutOfMemory}
 use Rattle.client_sync.specs.declared.post_error.PostError.{PostError}

@@ -3,6 +3,7 @@ use Rattle.std.specs.Prelude.{ℕ, ◌==◌, nat_lt, if◌then◌else◌, true, 
 use Rattle.delta.specs.declared.Step.{Step}
 use Rattle.delta.specs.Steps.{inserted_by}
 use Rattle.delta.specs.Moves.{text_after, transformed, composed}
+use Rattle.delta_laws.specs.Misfits.{Misfit, misfit}
 use Rattle.notebook.specs.declared.parts.Cell.{Cell}
 use Rattle.notebook.specs.declared.parts.Parts.{Parts}
 use Rattle.notebook.specs.Book.{cells, found, resourced}
@@ -14,7 +15,7 @@ use Rattle.session_ops.specs.declared.entry.Reply.{Reply}
 use Rattle.session_ops.specs.declared.entry.Reply.TheVariants.{Applied, Refused}
 use Rattle.session_ops.specs.declared.entry.Entry.{Entry}
 use Rattle.session_ops.specs.Structure.{change_of}
-use Rattle.session_ops.specs.State.{State, state, revision, Misfit, misfit}
+use Rattle.session_ops.specs.State.{State, state, revision}
 use Rattle.notebook.specs.declared.change.Change.{Change}
 use Rattle.notebook.specs.Living.{gone_cells}
 

@@ -3,10 +3,10 @@ use Rattle.std.specs.Prelude.{◌≡◌, ◌<◌, ◌≤◌, ℕ, List, Some, No
 use Rattle.delta.specs.declared.Step.{Step}
 use Rattle.delta.specs.Steps.{inserted_by}
 use Rattle.delta.specs.Moves.{FitsText, text_after}
+use Rattle.delta_laws.specs.Misfits.{Misfit, Past, Splits, misfit}
 use Rattle.notebook.specs.declared.parts.Cell.{Cell}
 use Rattle.notebook.specs.declared.parts.Parts.{Parts}
 use Rattle.notebook.specs.Book.{cells, found}
-use Rattle.session_ops.specs.State.{Misfit, Past, Splits, misfit}
 use Rattle.client_sync.specs.declared.edit_error.EditError.{EditError}
 use Rattle.client_sync.specs.declared.edit_error.EditError.TheVariants.{NoCell, EditTooLong, PastEnd, SplitsPair, OutOfMemory}
 

@@ -14,6 +14,7 @@ use Rattle.delta.specs.Transform.{moved, moved_over, gaps}
 use Rattle.delta.specs.declared.Step.{Step}
 use Rattle.delta_laws.specs.Laws.{IsPairMoved, IsPairComposed, IsNothing, DeltaLaws}
 use Rattle.delta_laws.proofs.Following.{followed_scripts}
+use Rattle.delta_laws.proofs.Misfits.{fits-from, misfit-none}
 use Rattle.delta_laws.proofs.Packing.{packed_script}
 use Rattle.delta_laws.proofs.Padding.{transformed_small-more, composed_small-more, packed-more}
 use Rattle.delta_laws.proofs.PastEnds.{past_end_law}
@@ -105,4 +106,6 @@ delta_laws = record {
   nothing = nothing_law;
   past_end = past_end_law;
   makes_text = λ d t. decoded-AreScalars (applied d (units t));
+  fits = fits-from;
+  no_misfit = misfit-none;
 }

@@ -1,5 +1,6 @@
 pub mod Following
 pub mod Laws
+pub mod Misfits
 pub mod Packing
 pub mod Padding
 pub mod PastEnds

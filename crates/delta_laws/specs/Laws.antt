@@ -1,8 +1,9 @@
 -- What deltas keep to, whatever the text.
-use Rattle.std.specs.Prelude.{◌≡◌, ◌<◌, IsTrue, ℕ, Bool, not, List, [], length}
+use Rattle.std.specs.Prelude.{◌≡◌, ◌<◌, IsTrue, ℕ, Bool, not, List, [], length, None}
 use Rattle.utf16_text.specs.Units.{unit_count, AreScalars}
 use Rattle.delta.specs.declared.Step.{Step}
 use Rattle.delta_laws.specs.Ends.{ends_felt, StaysPast}
+use Rattle.delta_laws.specs.Misfits.{misfit}
 use Rattle.delta.specs.Steps.{reach_of}
 use Rattle.delta.specs.Moves.{FitsText, text_after, composed, transformed}
 
@@ -34,3 +35,6 @@ pub record DeltaLaws : Type 0 where
   pub past_end : (right_first : Bool) (x d : List Step) (t : List ℕ) → FitsText x t → IsTrue (ends_felt d) → unit_count t < reach_of d → StaysPast right_first x d t
   -- what a delta makes of a text is a text
   pub makes_text : (d : List Step) (t : List ℕ) → AreScalars (text_after d t)
+  -- a delta fits a text exactly where nothing keeps it from it
+  pub fits : (d : List Step) (t : List ℕ) → misfit d t ≡ None → FitsText d t
+  pub no_misfit : (d : List Step) (t : List ℕ) → FitsText d t → misfit d t ≡ None

@@ -1,27 +1,14 @@
 -- The deltas that a source took, and the texts between them.
-use Rattle.std.proofs.Common.{◌≡◌, ℕ, zero, suc, ◌+◌, ◌<◌, ◌==◌, inl, inr, true, false, if◌then◌else◌, List, [], ◌∷◌, ◌++◌, length, take, drop, Some, refl, sym, ap, subst, ◌∙◌, arith}
-use Rattle.std.specs.Prelude.{IsTrue, nat_le}
-use Rattle.std.proofs.lemmas.Bool.Decides.{eqb_tells, nat_tests}
+use Rattle.std.proofs.Common.{◌≡◌, ℕ, zero, suc, ◌+◌, ◌<◌, false, List, [], ◌∷◌, ◌++◌, take, drop, refl, sym, ap, subst, ◌∙◌, arith}
+use Rattle.std.specs.Prelude.{IsTrue}
 use Rattle.utf16_text.specs.Units.{unit_count}
 use Rattle.delta.specs.declared.Step.{Step}
 use Rattle.delta.specs.Steps.{reach_of}
 use Rattle.delta.specs.Moves.{FitsText, text_after, over, transformed}
 use Rattle.delta_laws.specs.Ends.{ends_felt}
 use Rattle.delta_laws.proofs.Laws.{delta_laws}
-use Rattle.session_ops.specs.State.{Taken, taken_by, misfit, Past}
 use Rattle.revisions.specs.declared.kept.Kept.{Kept}
 use Rattle.revisions.specs.Kept.{deltas_of, made_by, LeadsTo, HaveLens}
-
-pub taken-more : (cell : ℕ) (ts : List Taken) (x : List Step) → taken_by cell (ts ++ record { cell = cell; delta = x } ∷ []) ≡ taken_by cell ts ++ x ∷ []
-taken-more cell [] x = elim (eqb_tells cell cell) [ inl e ↦ rw e.0 refl | inr e ↦ absurd (e.1 refl) ]
-taken-more cell (t ∷ ts) x =
-    elim (t.cell == cell)
-    as (λ b. (if b then t.delta ∷ taken_by cell (ts ++ record { cell = cell; delta = x } ∷ []) else taken_by cell (ts ++ record { cell = cell; delta = x } ∷ [])) ≡ (if b then t.delta ∷ taken_by cell ts else taken_by cell ts) ++ x ∷ [])
-    [ true ↦ ap (λ w. t.delta ∷ w) (taken-more cell ts x) | false ↦ taken-more cell ts x ]
-
-pub deltas-length : (ks : List Kept) → length (deltas_of ks) ≡ length ks
-deltas-length [] = refl
-deltas-length (k ∷ ks) = ap suc (deltas-length ks)
 
 pub deltas-drop : (n : ℕ) (ks : List Kept) → deltas_of (drop n ks) ≡ drop n (deltas_of ks)
 deltas-drop zero ks = refl
@@ -67,12 +54,6 @@ past-over [] d t now h e lt = rw (← h) lt
 past-over (x ∷ xs) d t now h e lt =
     let p = delta_laws.past_end false x d t h.0 e lt in
     past-over xs (transformed false x d) (text_after x t) now h.1 p.felt p.past
-
-pub misfit-past : (x : List Step) (now : List ℕ) (len : ℕ) → unit_count now < reach_of x → len ≡ unit_count now → misfit x now ≡ Some (Past len)
-misfit-past x now len lt e =
-    let past : nat_le (reach_of x) (unit_count now) ≡ false = grind (arith, nat_tests) in
-    let is : misfit x now ≡ Some (Past (unit_count now)) = rw past refl in
-    is ∙ ap (λ k. Some (Past k)) (sym e)
 
 -- the present text is what the deltas make of the first
 pub leads-made : (xs : List (List Step)) (t now : List ℕ) → LeadsTo t xs now → made_by xs t ≡ now

@@ -1,8 +1,7 @@
+pub mod Answering
 pub mod Chains
 pub mod Honest
-pub mod Leaving
+pub mod Keeping
 pub mod Lowest
-pub mod Others
 pub mod Raising
-pub mod Standing
 mod Worked

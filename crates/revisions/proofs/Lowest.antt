@@ -1,13 +1,9 @@
--- The least floor, and what is known of a client.
-use Rattle.std.proofs.Common.{◌≡◌, ◌≢◌, ℕ, ◌≤◌, ◌==◌, max, min, inl, inr, Bool, true, false, if◌then◌else◌, List, [], ◌∷◌, ◌++◌, refl, sym, ap, ◌∙◌, arith}
-use Rattle.std.specs.Prelude.{filter, not, ◌&&◌, IsSome}
-use Rattle.std.proofs.lemmas.Bool.Decides.{eqb_tells}
-use Rattle.notebook.specs.declared.parts.Cell.{Cell}
-use Rattle.notebook.specs.Book.{found}
-use Rattle.session_ops.specs.Numbers.{is_in, is_other}
-use Rattle.session_ops.specs.State.{State, Known, floor, least_floor, least_among, revision, knows_all}
+-- The least floor, and floors that are put in and taken away.
+use Rattle.std.proofs.Common.{◌≡◌, ℕ, ◌≤◌, ◌==◌, max, min, Bool, true, false, if◌then◌else◌, List, [], ◌∷◌, ◌++◌, refl, ap, ◌∙◌, arith}
+use Rattle.std.specs.Prelude.{filter, not}
+use Rattle.std.proofs.lemmas.Bool.Decides.{nat_tests}
 use Rattle.revisions.specs.declared.floors.Floor.{Floor}
-use Rattle.revisions.specs.Floors.{floors_of, at_zero, lowest, raised_one, raised, is_of_other}
+use Rattle.revisions.specs.Floors.{has_floor, is_of_other, lowest, raised, raised_one, with_client, without}
 
 pub lowest-le : (rev : ℕ) (fs : List Floor) → lowest rev fs ≤ rev
 lowest-le rev [] = omega arith
@@ -20,7 +16,7 @@ lowest-min a b (f ∷ fs) =
     ap (λ k. lowest k fs) same ∙ lowest-min a (min b f.rev) fs
 
 -- the first floor and the others
-lowest-cons : (rev : ℕ) (f : Floor) (fs : List Floor) → lowest rev (f ∷ fs) ≡ min f.rev (lowest rev fs)
+pub lowest-cons : (rev : ℕ) (f : Floor) (fs : List Floor) → lowest rev (f ∷ fs) ≡ min f.rev (lowest rev fs)
 lowest-cons rev f fs =
     let turned : min rev f.rev ≡ min f.rev rev = omega arith in
     ap (λ k. lowest k fs) turned ∙ lowest-min f.rev rev fs
@@ -38,9 +34,6 @@ lowest-more : (rev : ℕ) (fs : List Floor) (f : Floor) → rev ≤ f.rev → lo
 lowest-more rev [] f h = omega arith
 lowest-more rev (g ∷ fs) f h = lowest-more (min rev g.rev) fs f (omega arith)
 
-pub lowest-joined : (rev : ℕ) (fs : List Floor) (f : Floor) → f.rev ≡ rev → lowest rev (fs ++ f ∷ []) ≡ lowest rev fs
-lowest-joined rev fs f h = lowest-more rev fs f (omega (arith, h))
-
 -- fewer floors lower nothing
 lowest-fewer : (p : Floor → Bool) (a b : ℕ) (fs : List Floor) → a ≤ b → lowest a fs ≤ lowest b (filter p fs)
 lowest-fewer p a b [] h = h
@@ -49,116 +42,36 @@ lowest-fewer p a b (f ∷ fs) h =
     as (λ t. lowest (min a f.rev) fs ≤ lowest b (if t then f ∷ filter p fs else filter p fs))
     [ true ↦ lowest-fewer p (min a f.rev) (min b f.rev) fs (omega arith) | false ↦ lowest-fewer p (min a f.rev) b fs (omega arith) ]
 
-pub lowest-left : (p : Floor → Bool) (rev : ℕ) (fs : List Floor) → lowest rev fs ≤ lowest rev (filter p fs)
-lowest-left p rev fs = lowest-fewer p rev rev fs (omega arith)
+pub lowest-left : (client rev : ℕ) (fs : List Floor) → lowest rev fs ≤ lowest rev (without client fs)
+lowest-left client rev fs = lowest-fewer (is_of_other client) rev rev fs (omega arith)
 
--- floors that are at most the revision have the least floor of the session's state
-least-first : (cell : ℕ) (known : List Known) (rev n : ℕ) (ns : List ℕ) → ((m : ℕ) → floor m cell known ≤ rev) → lowest rev (floors_of cell known (n ∷ ns)) ≡ least_floor cell known n ns
-least-first cell known rev n [] h = omega (arith, h n)
-least-first cell known rev n (m ∷ ms) h =
-    lowest-cons rev (record { client = n; rev = floor n cell known }) (floors_of cell known (m ∷ ms)) ∙ ap (λ k. min (floor n cell known) k) (least-first cell known rev m ms h)
+-- a client that joins lowers nothing
+pub lowest-joined : (client rev : ℕ) (fs : List Floor) → lowest rev fs ≤ lowest rev (with_client client rev fs)
+lowest-joined client rev fs = omega (arith, lowest-left client rev fs, lowest-more rev (without client fs) (record { client = client; rev = rev }) (omega arith))
 
-pub least-same : (s : State) (cell : ℕ) (ns : List ℕ) → ((m : ℕ) → floor m cell s.known ≤ revision s cell) → lowest (revision s cell) (floors_of cell s.known ns) ≡ least_among s cell ns
-least-same s cell [] h = refl
-least-same s cell (n ∷ ns) h = least-first cell s.known (revision s cell) n ns h
+-- without a client that has no floor
+pub without-stranger : (client : ℕ) (fs : List Floor) → has_floor client fs ≡ false → without client fs ≡ fs
+without-stranger client [] e = refl
+without-stranger client (f ∷ fs) e =
+    elim (f.client == client)
+    as (λ b. (if b then true else has_floor client fs) ≡ false → (if not b then f ∷ without client fs else without client fs) ≡ f ∷ fs)
+    [ true ↦ λ k. absurd (cc k) | false ↦ λ k. ap (λ w. f ∷ w) (without-stranger client fs k) ]
+    e
 
--- one more thing is known of a client
-knows-own : (n cell rev : ℕ) → floor n cell (record { client = n; cell = cell; rev = rev } ∷ []) ≡ rev
-knows-own n cell rev = elim (eqb_tells n n) [ inl e ↦ (elim (eqb_tells cell cell) [ inl g ↦ rw (e.0, g.0) (omega arith) | inr g ↦ absurd (g.1 refl) ]) | inr e ↦ absurd (e.1 refl) ]
+-- a client that joins and leaves
+without-last : (client rev : ℕ) (fs : List Floor) → without client (fs ++ record { client = client; rev = rev } ∷ []) ≡ without client fs
+without-last client rev [] = ap (λ b. if not b then record { client = client; rev = rev } ∷ [] else []) {y = true} (grind (arith, nat_tests))
+without-last client rev (f ∷ fs) = ap (λ w. if not (f.client == client) then f ∷ w else w) (without-last client rev fs)
 
-knows-other : (n m cell rev : ℕ) → m ≢ n → floor n cell (record { client = m; cell = cell; rev = rev } ∷ []) ≡ 0
-knows-other n m cell rev h = elim (eqb_tells m n) [ inl e ↦ absurd (h e.1) | inr e ↦ rw e.0 refl ]
-
-pub floor-append : (n cell : ℕ) (ks ls : List Known) → floor n cell (ks ++ ls) ≡ max (floor n cell ks) (floor n cell ls)
-floor-append n cell [] ls = omega arith
-floor-append n cell (k ∷ ks) ls =
-    let more = floor-append n cell ks ls in
-    elim ((k.client == n) && (k.cell == cell))
-    as (λ b. (if b then max k.rev (floor n cell (ks ++ ls)) else floor n cell (ks ++ ls)) ≡ max (if b then max k.rev (floor n cell ks) else floor n cell ks) (floor n cell ls))
-    [ true ↦ omega (arith, more) | false ↦ more ]
-
-knowing-one : (n m cell rev : ℕ) (ks : List Known) → record { client = n; rev = floor n cell (ks ++ record { client = m; cell = cell; rev = rev } ∷ []) } ≡ raised_one m rev (record { client = n; rev = floor n cell ks })
-knowing-one n m cell rev ks =
-    let all = floor-append n cell ks (record { client = m; cell = cell; rev = rev } ∷ []) in
-    elim (eqb_tells n m) [
-      | inl e ↦ (
-          let own : floor n cell (record { client = m; cell = cell; rev = rev } ∷ []) ≡ rev = rw (← e.1) (knows-own n cell rev) in
-          rw (e.0, all, own) refl)
-      | inr e ↦ (
-          let none : floor n cell (record { client = m; cell = cell; rev = rev } ∷ []) ≡ 0 = knows-other n m cell rev (λ q. e.1 (sym q)) in
-          let same : max (floor n cell ks) 0 ≡ floor n cell ks = omega arith in
-          rw (e.0, all, none, same) refl)
+without-twice : (client : ℕ) (fs : List Floor) → without client (without client fs) ≡ without client fs
+without-twice client [] = refl
+without-twice client (f ∷ fs) =
+    elim (f.client == client)
+    as (λ b. (f.client == client) ≡ b → without client (if not b then f ∷ without client fs else without client fs) ≡ (if not b then f ∷ without client fs else without client fs)) [
+      | true ↦ λ t. without-twice client fs
+      | false ↦ λ t. ap (λ b. if not b then f ∷ without client (without client fs) else without client (without client fs)) t ∙ ap (λ w. f ∷ w) (without-twice client fs)
     ]
+    refl
 
-pub knowing-floors : (m cell rev : ℕ) (ks : List Known) (ns : List ℕ) → floors_of cell (ks ++ record { client = m; cell = cell; rev = rev } ∷ []) ns ≡ raised m rev (floors_of cell ks ns)
-knowing-floors m cell rev ks [] = refl
-knowing-floors m cell rev ks (n ∷ ns) = rw (knowing-one n m cell rev ks, knowing-floors m cell rev ks ns) refl
-
-knows-le : (n m cell rev : ℕ) → floor n cell (record { client = m; cell = cell; rev = rev } ∷ []) ≤ rev
-knows-le n m cell rev =
-    elim ((m == n) && (cell == cell)) as (λ b. (if b then max rev 0 else 0) ≤ rev) [ true ↦ omega arith | false ↦ omega arith ]
-
--- what is known stays at most the revision
-pub knowing-low : (m cell rev a b : ℕ) (ks : List Known) → rev ≤ b → a ≤ b → ((n : ℕ) → floor n cell ks ≤ a) → (n : ℕ) → floor n cell (ks ++ record { client = m; cell = cell; rev = rev } ∷ []) ≤ b
-knowing-low m cell rev a b ks low up h n = omega (arith, floor-append n cell ks (record { client = m; cell = cell; rev = rev } ∷ []), knows-le n m cell rev, h n)
-
--- a client that has nothing else
-pub zero-floors : (cell : ℕ) (ks : List Known) (ns : List ℕ) → ((n : ℕ) → floor n cell ks ≡ 0) → floors_of cell ks ns ≡ at_zero ns
-zero-floors cell ks [] h = refl
-zero-floors cell ks (n ∷ ns) h = rw (h n, zero-floors cell ks ns h) refl
-
--- who has left has no floor
-pub left-floors : (m cell : ℕ) (ks : List Known) (ns : List ℕ) → floors_of cell ks (filter (is_other m) ns) ≡ filter (is_of_other m) (floors_of cell ks ns)
-left-floors m cell ks [] = refl
-left-floors m cell ks (n ∷ ns) =
-    elim (n == m)
-    as (λ b. floors_of cell ks (if not b then n ∷ filter (is_other m) ns else filter (is_other m) ns) ≡ (if not b then record { client = n; rev = floor n cell ks } ∷ filter (is_of_other m) (floors_of cell ks ns) else filter (is_of_other m) (floors_of cell ks ns)))
-    [ true ↦ left-floors m cell ks ns | false ↦ ap (λ fs. record { client = n; rev = floor n cell ks } ∷ fs) (left-floors m cell ks ns) ]
-
--- who joins knows the revision of each live cell
-joins-other : (s : State) (n m cell : ℕ) (cs : List Cell) → m ≢ n → floor n cell (knows_all s m cs) ≡ 0
-joins-other s n m cell [] h = refl
-joins-other s n m cell (c ∷ cs) h = elim (eqb_tells m n) [ inl e ↦ absurd (h e.1) | inr e ↦ rw e.0 (joins-other s n m cell cs h) ]
-
-joins-low : (s : State) (n m cell : ℕ) (cs : List Cell) → floor n cell (knows_all s m cs) ≤ revision s cell
-joins-low s n m cell [] = omega arith
-joins-low s n m cell (c ∷ cs) =
-    elim (eqb_tells m n) [
-      | inl e ↦ (elim (eqb_tells c.id cell) [ inl g ↦ rw (e.0, g.0, g.1) (omega (arith, joins-low s n m cell cs)) | inr g ↦ rw (e.0, g.0) (joins-low s n m cell cs) ])
-      | inr e ↦ rw e.0 (joins-low s n m cell cs)
-    ]
-
-joins-own : (s : State) (m cell : ℕ) (cs : List Cell) → IsSome (found cell cs) → floor m cell (knows_all s m cs) ≡ revision s cell
-joins-own s m cell [] h = absurd (cc h)
-joins-own s m cell (c ∷ cs) h =
-    elim (eqb_tells m m) [
-      | inl e ↦ (elim (eqb_tells c.id cell) [
-        | inl g ↦ rw (e.0, g.0, g.1) (omega (arith, joins-low s m m cell cs))
-        | inr g ↦ rw (e.0, g.0) (joins-own s m cell cs (rw g.0 at h))
-      ])
-      | inr e ↦ absurd (e.1 refl)
-    ]
-
-others-floors : (s : State) (m cell : ℕ) (cs : List Cell) (ks : List Known) (ns : List ℕ) → is_in m ns ≡ false → floors_of cell (ks ++ knows_all s m cs) ns ≡ floors_of cell ks ns
-others-floors s m cell cs ks [] h = refl
-others-floors s m cell cs ks (n ∷ ns) h =
-    elim (eqb_tells n m) [
-      | inl e ↦ absurd (cc (rw e.0 at h))
-      | inr e ↦ (
-          let none : floor n cell (knows_all s m cs) ≡ 0 = joins-other s n m cell cs (λ q. e.1 (sym q)) in
-          let same : max (floor n cell ks) 0 ≡ floor n cell ks = omega arith in
-          rw (floor-append n cell ks (knows_all s m cs), none, same, others-floors s m cell cs ks ns (rw e.0 at h)) refl)
-    ]
-
-floors-last : (cell : ℕ) (ks : List Known) (ns : List ℕ) (n : ℕ) → floors_of cell ks (ns ++ n ∷ []) ≡ floors_of cell ks ns ++ record { client = n; rev = floor n cell ks } ∷ []
-floors-last cell ks [] n = refl
-floors-last cell ks (m ∷ ns) n = ap (λ fs. record { client = m; rev = floor m cell ks } ∷ fs) (floors-last cell ks ns n)
-
-pub joined-floors : (s : State) (m cell : ℕ) (cs : List Cell) (ks : List Known) (ns : List ℕ) → is_in m ns ≡ false → IsSome (found cell cs) → floor m cell ks ≤ revision s cell
-    → floors_of cell (ks ++ knows_all s m cs) (ns ++ m ∷ []) ≡ floors_of cell ks ns ++ record { client = m; rev = revision s cell } ∷ []
-joined-floors s m cell cs ks ns out live low =
-    let own : floor m cell (ks ++ knows_all s m cs) ≡ revision s cell = omega (arith, floor-append m cell ks (knows_all s m cs), joins-own s m cell cs live, low) in
-    floors-last cell (ks ++ knows_all s m cs) ns m ∙ rw (own, others-floors s m cell cs ks ns out) refl
-
-pub joined-low : (s : State) (m cell : ℕ) (cs : List Cell) (ks : List Known) → ((n : ℕ) → floor n cell ks ≤ revision s cell) → (n : ℕ) → floor n cell (ks ++ knows_all s m cs) ≤ revision s cell
-joined-low s m cell cs ks h n = omega (arith, floor-append n cell ks (knows_all s m cs), joins-low s n m cell cs, h n)
+pub without-joined : (client rev : ℕ) (fs : List Floor) → without client (with_client client rev fs) ≡ without client fs
+without-joined client rev fs = without-last client rev (without client fs) ∙ without-twice client fs

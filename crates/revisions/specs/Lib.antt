@@ -1,4 +1,6 @@
+pub mod Answer
 pub mod Floors
 pub mod Kept
+pub mod Log
 pub mod Moved
-pub mod Stands
+pub mod Source

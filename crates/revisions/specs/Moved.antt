@@ -1,20 +1,32 @@
 -- What moving a delta to the present text answers.
-use Rattle.std.specs.Prelude.{◌≡◌, ◌≤◌, ℕ, List, Some, None}
+use Rattle.std.specs.Prelude.{◌≡◌, ◌≤◌, ℕ, ◌+◌, List, Some}
 use Rattle.utf16_text.specs.Units.{unit_count}
 use Rattle.delta.specs.declared.Step.{Step}
 use Rattle.delta.specs.Steps.{reach_of}
 use Rattle.delta.specs.Moves.{FitsText, text_after}
-use Rattle.session_ops.specs.State.{misfit, Past, Splits}
+use Rattle.delta_laws.specs.Misfits.{misfit, Past, Splits}
 use Rattle.revisions.specs.declared.errors.RevError.{RevError}
 use Rattle.revisions.specs.declared.errors.RevError.TheVariants.{TooNew, TooOld, PastEnd, SplitsPair, OutOfMemory}
-use Rattle.revisions.specs.declared.kept.Move.{Move}
+use Rattle.revisions.specs.declared.moved.Move.{Move}
+use Rattle.revisions.specs.Answer.{Takes, answer, IsWithin}
+use Rattle.revisions.specs.Source.{Source, rev_of}
 
--- the moved delta, which fits the text, and what it makes of it
-pub record IsMove (x : List Step) (now : List ℕ) (m : Move) : Type 0 where
+-- its delta fits the text, and its text is what the delta makes of it
+pub record IsMove (now : List ℕ) (m : Move) : Type 0 where
+  pub fits : FitsText m.delta now
+  pub makes : m.text ≡ text_after m.delta now
+
+-- what the delta becomes at the present revision: the source would take this, and it fits its text
+pub record IsMoved (s : Source) (base : ℕ) (d : List Step) (m : Move) : Type 0 where
+  pub answered : answer s base d ≡ Takes (rev_of s + 1) m.delta
+  pub moves : IsMove s.text m
+  pub within : IsWithin s base d
+
+-- the delta became x, which fits the text, and stays within the text on which it was made
+pub record BecomesMove (d x : List Step) (t now : List ℕ) (m : Move) : Type 0 where
   pub moved : m.delta ≡ x
-  pub fits : FitsText x now
-  pub none : misfit x now ≡ None
-  pub makes : m.text ≡ text_after x now
+  pub moves : IsMove now m
+  pub reach : reach_of d ≤ unit_count t
 
 -- why a delta that became x isn't applied; memory is wanted only where the delta stays within the text on which it was made
 abbrev pub IsMoveCause : List Step → List Step → List ℕ → List ℕ → RevError → Type 0

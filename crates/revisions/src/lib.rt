@@ -7,17 +7,18 @@
 //! it is known to have: it bases no delta on an earlier one. Kept are the deltas above the least floor
 //! of those who have joined, and none where nobody has.
 //!
-//! What the layer above may rely on: `StandsFor s cell text log` says that a [`SourceLog`] holds what
-//! the session's state `s` says of one cell whose source is `text`. Each call says, for every state
-//! and cell that the log stands for, which answer the session gives and which state the log stands for
-//! afterwards. What others do to other cells leaves it as it is (`proofs/Others.antt`).
+//! What the layer above may rely on: `IsLog s log` says that a [`SourceLog`] is that of the source `s`,
+//! which is plain data: the text with which it began, the deltas that it took, its text and the floors
+//! of its clients. Each call says, for every source that the log is of, what it answers (`answer s base
+//! d` to a delta), and of which source the log is afterwards. After an error it is equal to what it was.
 #![tactic(auto)]
 
 mod errors;
 mod floors;
 mod kept;
+mod moved;
 mod source_log;
 
 pub use errors::{ReportError, RevError};
-pub use kept::Move;
+pub use moved::Move;
 pub use source_log::{Accepted, SourceLog};

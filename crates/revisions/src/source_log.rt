@@ -1,25 +1,17 @@
 //! The log of one cell's source.
-ghost use Rattle.std.specs.Prelude.{◌≡◌, ◌≤◌, ◌+◌, ◌++◌, ◌∷◌, [], ℕ, List, Some, false, length, IsSome, IfOk, OnOk, OnErr, MatchResult};
-ghost use Rattle.delta.specs.declared.Step.{Step};
-ghost use Rattle.delta.specs.Moves.{FitsText, text_after};
-ghost use Rattle.notebook.specs.declared.parts.Cell.{Cell};
-ghost use Rattle.notebook.specs.Book.{cells, found};
-ghost use Rattle.session_ops.specs.declared.entry.Op.TheVariants.{Join};
-ghost use Rattle.session_ops.specs.declared.entry.Call.TheVariants.{Client};
-ghost use Rattle.session_ops.specs.declared.entry.Reply.TheVariants.{Accepted as IsAccepted};
-ghost use Rattle.session_ops.specs.Numbers.{is_in};
-ghost use Rattle.session_ops.specs.State.{State, first_source, taken_by, revision, floor, least, once_left, after_call};
-ghost use Rattle.revisions.specs.declared.floors.Floor.{Floor};
-ghost use Rattle.revisions.specs.Floors.{lowest, raised};
-ghost use Rattle.revisions.specs.Moved.{IsMove};
-ghost use Rattle.revisions.specs.Stands.{Holds, IsLog, StandsFor, IsMoved, IsTaken, IsCause, IsRefused, IsReportCause, knowing};
+ghost use Rattle.std.specs.Prelude.{◌≡◌, ◌≤◌, false, IfOk, IfErr, OnOk, OnErr, MatchResult};
+ghost use Rattle.revisions.specs.Answer.{IsCause, IsHonest, IsReportCause};
+ghost use Rattle.revisions.specs.Floors.{has_floor};
+ghost use Rattle.revisions.specs.Log.{Holds, HasTaken, IsLog, IsTaken};
+ghost use Rattle.revisions.specs.Moved.{IsMove, IsMoved};
+ghost use Rattle.revisions.specs.Source.{Source, begun, rev_of, least_of, reporting, joining, leaving};
 
 use crate::errors::{ReportError, RevError};
-use crate::floors::{Floor, floors_at_zero, lowest, raise, remove_floor};
-use crate::kept::{Kept, Move, drop_first, move_on};
+use crate::floors::Floors;
+use crate::kept::{Kept, KeptDeltas};
+use crate::moved::{Move, move_on};
 use delta::Delta;
 use std::alloc::{AllocError, Global};
-use std::collections::VecDeque;
 use utf16_text::{Text, unit_len};
 
 /// One cell's source: its text, its revision, the deltas above the least floor, and the floor of each
@@ -29,8 +21,8 @@ pub struct SourceLog {
     text: Text,
     rev: u64,
     least: u64,
-    kept: VecDeque<Kept>,
-    floors: Vec<Floor>,
+    kept: KeptDeltas,
+    floors: Floors,
 }
 
 /// A delta that was accepted, as it was applied to the present text. `rev` is the revision that it
@@ -44,27 +36,27 @@ pub struct Accepted {
 impl SourceLog {
     /// The log of a cell that is made with this source. These clients have joined; their floors are 0.
     pub fn new(alloc: Global, source: Text, clients: &[u32]) -> Result<SourceLog, AllocError>
-        ensures { (s : State) (cell : ℕ) → s.joined ≡ clients.now → first_source cell s.began ≡ source → taken_by cell s.taken ≡ [] → ((n : ℕ) → floor n cell s.known ≡ 0) → IfOk result (StandsFor s cell source) }
+        ensures { IfOk result (IsLog (begun source clients.now)) }
     {
         Ok(SourceLog {
             text: source,
             rev: 0,
             least: 0,
-            kept: VecDeque::new(alloc),
-            floors: floors_at_zero(alloc, clients)?,
+            kept: KeptDeltas::new(alloc),
+            floors: Floors::at_zero(alloc, clients)?,
         })
     }
 
     /// The present text. Takes no memory.
     pub fn text(&self) -> &Text
-        ensures { (s : State) (cell : ℕ) (text : List ℕ) → StandsFor s cell text self.now → result.now ≡ text }
+        ensures { (s : Source) → IsLog s self.now → result.now ≡ s.text }
     {
         &self.text
     }
 
     /// The present revision. Takes no memory.
     pub fn rev(&self) -> u64
-        ensures { (s : State) (cell : ℕ) (text : List ℕ) → StandsFor s cell text self.now → result ≡ revision s cell }
+        ensures { (s : Source) → IsLog s self.now → result ≡ rev_of s }
     {
         self.rev
     }
@@ -72,7 +64,7 @@ impl SourceLog {
     /// The least floor of those who have joined; the present revision where nobody has. Takes no
     /// memory.
     pub fn least(&self) -> u64
-        ensures { (s : State) (cell : ℕ) (text : List ℕ) → StandsFor s cell text self.now → result ≡ least s cell }
+        ensures { (s : Source) → IsLog s self.now → result ≡ least_of s }
     {
         self.least
     }
@@ -84,7 +76,9 @@ impl SourceLog {
     /// It answers `TooNew` exactly where `base` is above the revision, else `TooOld` exactly where it
     /// is below the least floor, else `PastEnd` or `SplitsPair` exactly where the moved delta doesn't
     /// fit the present text. A delta that reaches past the text at its base is always told so, and
-    /// never answered by want of memory. The log is as it was after each error.
+    /// never answered by want of memory. A delta of a client that has joined, which is based on a
+    /// revision from the client's floor on and fits the text at it, is refused only for want of memory.
+    /// The log is as it was after each error.
     pub fn accept(
         &mut self,
         alloc: Global,
@@ -92,9 +86,12 @@ impl SourceLog {
         base: u64,
         delta: &Delta,
     ) -> Result<Accepted, RevError>
-        ensures { (s : State) (cell : ℕ) (c : Cell) → StandsFor s cell c.source self.old → MatchResult result
-            (λ a. IsTaken s cell c client base delta.now a self.new)
-            (λ e. IsRefused s cell c base delta.now e self.new) }
+        ensures answer { (s : Source) → IsLog s self.old → MatchResult result
+            (λ a. IsTaken s client base delta.now a self.new)
+            (IsCause s base delta.now) }
+        ensures honest { (s : Source) → IsLog s self.old → IsHonest s client base delta.now → IfErr result
+            (λ e. e ≡ RevError.OutOfMemory) }
+        ensures err { OnErr result (self.new ≡ self.old) }
     {
         let moved = match self.moved(alloc, base, delta) {
             Ok(moved) => moved,
@@ -110,9 +107,9 @@ impl SourceLog {
     /// since, which go first in a tie, and the text that it would make. Nothing is changed. It answers
     /// the same errors as [`accept`](SourceLog::accept).
     pub fn moved(&self, alloc: Global, base: u64, delta: &Delta) -> Result<Move, RevError>
-        ensures { (s : State) (cell : ℕ) (c : Cell) → StandsFor s cell c.source self.now → MatchResult result
-            (IsMoved s cell c base delta.now)
-            (IsCause s cell c base delta.now) }
+        ensures { (s : Source) → IsLog s self.now → MatchResult result
+            (IsMoved s base delta.now)
+            (IsCause s base delta.now) }
     {
         if base > self.rev {
             return Err(RevError::TooNew { now: self.rev });
@@ -130,31 +127,19 @@ impl SourceLog {
     /// Takes a client's delta as [`moved`](SourceLog::moved) made it of the present text. The client's
     /// floor is then the new revision. After want of memory the log is as it was.
     pub fn take(&mut self, alloc: Global, client: u32, moved: Move) -> Result<Accepted, AllocError>
-        ensures { (s : State) (cell : ℕ) (c : Cell) (base : ℕ) (d : List Step) → StandsFor s cell c.source self.old → IsMoved s cell c base d moved → MatchResult result
-            (λ a. IsTaken s cell c client base d a self.new)
-            (λ _. StandsFor s cell c.source self.new) }
-    {
-        match self.keep(alloc, client, moved) {
-            Ok(accepted) => Ok(accepted),
-            Err(fault) => Err(fault),
-        }
-    }
-
-    /// Takes a delta that fits the present text, with the text that it makes.
-    fn keep(&mut self, alloc: Global, client: u32, moved: Move) -> Result<Accepted, AllocError>
-        ensures { (first : List ℕ) (taken : List (List Step)) (floors : List Floor) (text : List ℕ) → IsLog first taken floors text self.old → IsMove moved.delta text moved → MatchResult result
-            (λ a. (a.rev ≡ length taken + 1) × (a.delta ≡ moved.delta) × IsLog first (taken ++ moved.delta ∷ []) (raised client (length taken + 1) floors) moved.text self.new)
-            (λ _. IsLog first taken floors text self.new) }
+        ensures ok { (s : Source) → IsLog s self.old → IsMove s.text moved → IfOk result
+            (λ a. HasTaken s client moved.delta a self.new) }
+        ensures err { OnErr result (self.new ≡ self.old) }
     {
         let Some(rev) = self.rev.checked_add(1) else {
             return Err(AllocError);
         };
         let len = unit_len(self.text.as_str());
         let delta = moved.delta.copy(alloc)?;
-        self.kept.push_back(Kept { len, delta })?;
+        self.kept.push(Kept { len, delta })?;
         self.text = moved.text;
         self.rev = rev;
-        raise(&mut self.floors, client, rev);
+        self.floors.raise(client, rev);
         self.let_go();
         Ok(Accepted {
             rev,
@@ -162,51 +147,53 @@ impl SourceLog {
         })
     }
 
-    /// Drops the deltas up to the least floor, which may have risen.
-    fn let_go(&mut self)
-        ensures { (first : List ℕ) (taken : List (List Step)) (floors : List Floor) (text : List ℕ) → Holds first taken floors text self.old → self.old.least ≤ lowest (length taken) floors → IsLog first taken floors text self.new }
-    {
-        let least = lowest(self.rev, &self.floors);
-        drop_first(&mut self.kept, least.saturating_sub(self.least));
-        self.least = least;
-    }
-
     /// Notes that a client has the revision `rev`: its floor is at least this. Takes no memory.
     ///
     /// It answers `TooNew` exactly where `rev` is above the present revision. Nothing is then changed.
     pub fn report(&mut self, client: u32, rev: u64) -> Result<(), ReportError>
-        ensures { (s : State) (cell : ℕ) (text : List ℕ) → StandsFor s cell text self.old → MatchResult result
-            (λ _. (rev ≤ revision s cell) × StandsFor (knowing client cell rev s) cell text self.new)
-            (λ e. IsReportCause s cell rev e × StandsFor s cell text self.new) }
+        ensures answer { (s : Source) → IsLog s self.old → MatchResult result
+            (λ _. (rev ≤ rev_of s) × IsLog (reporting client rev s) self.new)
+            (IsReportCause s rev) }
+        ensures err { OnErr result (self.new ≡ self.old) }
     {
         if rev > self.rev {
             return Err(ReportError::TooNew { now: self.rev });
         }
-        raise(&mut self.floors, client, rev);
+        self.floors.raise(client, rev);
         self.let_go();
         Ok(())
     }
 
-    /// Notes that a client joins, which hasn't joined: its floor is the present revision. After an
-    /// error the log is as it was.
+    /// Notes that a client joins: its floor is the present revision, also where it has joined already.
+    /// After an error the log is as it was.
     pub fn joined(&mut self, client: u32) -> Result<(), AllocError>
-        ensures ok { (s : State) (cell : ℕ) (text : List ℕ) → StandsFor s cell text self.old → is_in client s.joined ≡ false → IsSome (found cell (cells s.book)) → OnOk result (StandsFor (after_call s (Client client Join) IsAccepted) cell text self.new) }
-        ensures err { (s : State) (cell : ℕ) (text : List ℕ) → StandsFor s cell text self.old → OnErr result (StandsFor s cell text self.new) }
+        ensures ok { (s : Source) → IsLog s self.old → OnOk result (IsLog (joining client s) self.new) }
+        ensures err { OnErr result (self.new ≡ self.old) }
     {
-        self.floors.push(Floor {
-            client,
-            rev: self.rev,
-        })?;
+        self.floors.put(client, self.rev)?;
+        self.let_go();
         Ok(())
     }
 
     /// Notes that a client has left: its floor goes. So a client that has just joined hasn't joined
-    /// after all. Takes no memory.
+    /// after all, and one that hasn't joined changes nothing. Takes no memory.
     pub fn left(&mut self, client: u32)
-        ensures gone { (s : State) (cell : ℕ) (text : List ℕ) → StandsFor s cell text self.old → StandsFor (once_left client s) cell text self.new }
-        ensures undone { (s : State) (cell : ℕ) (text : List ℕ) → StandsFor (after_call s (Client client Join) IsAccepted) cell text self.old → is_in client s.joined ≡ false → IsSome (found cell (cells s.book)) → StandsFor s cell text self.new }
+        ensures gone { (s : Source) → IsLog s self.old → IsLog (leaving client s) self.new }
+        ensures stranger { (s : Source) → IsLog s self.old → has_floor client s.floors ≡ false →
+            self.new ≡ self.old }
     {
-        remove_floor(&mut self.floors, client);
-        self.let_go();
+        if self.floors.has(client) {
+            self.floors.remove(client);
+            self.let_go();
+        }
+    }
+
+    /// Drops the deltas up to the least floor, which may have risen.
+    fn let_go(&mut self)
+        ensures { (s : Source) → Holds s self.old → self.old.least ≤ least_of s → IsLog s self.new }
+    {
+        let least = self.floors.lowest(self.rev);
+        self.kept.drop_first(least.saturating_sub(self.least));
+        self.least = least;
     }
 }

@@ -14,10 +14,10 @@ use Rattle.session_ops.specs.Numbers.{is_in, AreOnce}
 use Rattle.session_ops.specs.State.{State, opening}
 use Rattle.session_ops.proofs.Lists.{all-weaker}
 use Rattle.session_ops.proofs.Live.{AreApart, live-apart}
-use Rattle.revisions.specs.Stands.{StandsFor}
-use Rattle.revisions.proofs.Others.{begins}
 use Rattle.session_core.specs.declared.logs.CellLog.{CellLog}
+use Rattle.session_core.specs.Stands.{StandsFor}
 use Rattle.session_core.specs.Logs.{LineUp, IsLogIn, IsLiveIn, AreLogs, BeginsIn, log_cell, place_in, later}
+use Rattle.session_core.proofs.Others.{begins}
 
 pub found-some : (o : Option Cell) (c : Cell) → o ≡ Some c → IsSome o
 found-some o c e = subst IsSome (sym e) (search)

@@ -28,16 +28,21 @@ use Rattle.session_ops.proofs.Sweeps.{swept-same}
 use Rattle.session_ops.proofs.Settled.{hopeful-state}
 use Rattle.revisions.specs.declared.errors.RevError.{RevError}
 use Rattle.revisions.specs.declared.errors.RevError.TheVariants.{TooNew, TooOld, PastEnd, SplitsPair, OutOfMemory}
-use Rattle.revisions.specs.declared.kept.Move.{Move}
+use Rattle.revisions.specs.declared.moved.Move.{Move}
 use Rattle.revisions.specs.declared.source_log.Accepted.{Accepted as Taken}
-use Rattle.revisions.specs.Stands.{StandsFor, IsMoved, IsTaken, IsCause, knowing}
-use Rattle.revisions.proofs.Others.{stands-elsewhere, stands-reported}
+use Rattle.revisions.specs.declared.source_log.SourceLog.{SourceLog}
+use Rattle.revisions.specs.Answer.{IsCause}
+use Rattle.revisions.specs.Log.{IsLog, HasTaken}
+use Rattle.revisions.specs.Source.{taking}
 use Rattle.session_core.specs.declared.logs.CellLog.{CellLog}
 use Rattle.session_core.specs.declared.session.Session.{Session}
 use Rattle.session_core.specs.Logs.{AreLogs, IsLogIn, place_in}
+use Rattle.session_core.specs.Stands.{StandsFor, IsMovedIn, as_reply, source_in}
 use Rattle.session_core.specs.Session.{IsSession, HasAnswered, IsAsBefore, history_of, state_of, entry_of, told}
+use Rattle.session_core.proofs.Others.{taken-beside, reported-beside}
 use Rattle.session_core.proofs.Owners.{StaysElsewhere, replaced}
 use Rattle.session_core.proofs.SessionLaws.{answered-session, member-reply, answered-ok}
+use Rattle.session_core.proofs.Standing.{answers, stands-taken}
 
 -- what a joined client's delta is answered, by the cell that is found
 pub delta-answer : (n0 : Parts) (s : Session) (client cell base : ℕ) (d : List Step) (o : Option Cell) → IsSession n0 s → is_in client s.joined.items ≡ true → found cell (cells (state_of n0 s).book) ≡ o → reply (state_of n0 s) (Client client (Delta cell base d)) ≡ delta_reply (state_of n0 s) cell base d o
@@ -47,12 +52,12 @@ pub report-answer : (n0 : Parts) (s : Session) (client cell rev : ℕ) (o : Opti
 report-answer n0 s client cell rev o is e f = member-reply n0 s client (Report cell rev) is e ∙ ap (report_reply (state_of n0 s) cell rev) f
 
 -- a cause that a client is told is the session's refusal
-pub told-cause : (s : State) (cell : ℕ) (c : Cell) (base : ℕ) (d : List Step) (e : RevError) (why : Refusal) → IsCause s cell c base d e → Some why ≡ told e → delta_reply s cell base d (Some c) ≡ Refused why
-told-cause s cell c base d (TooNew now) why h k = h ∙ ap Refused (sym (cc k))
-told-cause s cell c base d (TooOld kept) why h k = h ∙ ap Refused (sym (cc k))
-told-cause s cell c base d (PastEnd len) why h k = h ∙ ap Refused (sym (cc k))
-told-cause s cell c base d (SplitsPair at) why h k = h ∙ ap Refused (sym (cc k))
-told-cause s cell c base d OutOfMemory why h k = absurd (cc k)
+pub told-cause : (s : State) (cell : ℕ) (c : Cell) (base : ℕ) (d : List Step) (log : SourceLog) (e : RevError) (why : Refusal) → StandsFor s cell c.source log → IsCause (source_in s cell c.source) base d e → Some why ≡ told e → delta_reply s cell base d (Some c) ≡ Refused why
+told-cause s cell c base d log (TooNew now) why h q k = sym (answers s cell base d c log h) ∙ (ap as_reply q ∙ ap Refused (sym (cc k)))
+told-cause s cell c base d log (TooOld kept) why h q k = sym (answers s cell base d c log h) ∙ (ap as_reply q ∙ ap Refused (sym (cc k)))
+told-cause s cell c base d log (PastEnd len) why h q k = sym (answers s cell base d c log h) ∙ (ap as_reply q ∙ ap Refused (sym (cc k)))
+told-cause s cell c base d log (SplitsPair at) why h q k = sym (answers s cell base d c log h) ∙ (ap as_reply q ∙ ap Refused (sym (cc k)))
+told-cause s cell c base d log OutOfMemory why h q k = absurd (cc k)
 
 changes-one : (cell : ℕ) (d : List Step) → ChangesOne (moved_source cell d) cell (text_after d)
 changes-one cell d = record { one = λ c e. ap (λ b. if b then text_after d c.source else c.source) e; others = λ c e. ap (λ b. if b then text_after d c.source else c.source) e }
@@ -67,14 +72,8 @@ stays-else s client cell base rev d x = record {
       let number : h.owner.id ≡ l.cell = found-number l.cell (cells s.book) h.owner h.is_found in
       let apart : (h.owner.id == cell) ≡ false = subst (λ n. (n == cell) ≡ false) (sym number) e in
       let source : moved_source cell x h.owner ≡ h.owner.source = ap (λ b. if b then text_after x h.owner.source else h.owner.source) apart in
-      record { owner = resourced_cell (moved_source cell x) h.owner; is_found = here; stands = subst (λ text. StandsFor t l.cell text l.log) (sym source) (stands-elsewhere s t l.cell cell client rev x h.owner.source l.log h.stands other refl refl refl refl) };
+      record { owner = resourced_cell (moved_source cell x) h.owner; is_found = here; stands = subst (λ text. StandsFor t l.cell text l.log) (sym source) (taken-beside s t l.cell cell client rev x h.owner.source l.log h.stands other refl refl refl refl) };
 }
-
-applied-rev : (a b : ℕ) (x y : List Step) → Applied a x ≡ Applied b y → a ≡ b
-applied-rev a b x y e = cc e
-
-applied-delta : (a b : ℕ) (x y : List Step) → Applied a x ≡ Applied b y → x ≡ y
-applied-delta a b x y e = cc e
 
 some-before : (f : Cell → List ℕ) (o : Option Cell) → is_some (option_map (resourced_cell f) o) ≡ true → is_some o ≡ true
 some-before f None h = h
@@ -95,50 +94,48 @@ own-log s t cell x c l eb f named h =
       stands = subst (λ n. StandsFor t n (moved_source cell x c) l.log) (sym named) (subst (λ text. StandsFor t cell text l.log) source h);
     }
 
-pub taken-session : (n0 : Parts) (s s' : Session) (by client cell base rev at : ℕ) (d kept : List Step) (c : Cell) (m : Move) (a : Taken) (l' : CellLog) → IsSession n0 s → is_in client s.joined.items ≡ true → found cell (cells s.book) ≡ Some c
-    → IsMoved (state_of n0 s) cell c base d m → IsTaken (state_of n0 s) cell c client base d a l'.log → rev ≡ revision (state_of n0 s) cell + 1 → kept ≡ m.delta → Some at ≡ place_in cell s.logs.items → l'.cell ≡ cell
+pub taken-session : (n0 : Parts) (s s' : Session) (by client cell base rev at : ℕ) (d kept : List Step) (c : Cell) (m : Move) (a : Taken) (old : SourceLog) (l' : CellLog) → IsSession n0 s → is_in client s.joined.items ≡ true → found cell (cells s.book) ≡ Some c
+    → IsMovedIn (state_of n0 s) cell c base d m → StandsFor (state_of n0 s) cell c.source old → HasTaken (source_in (state_of n0 s) cell c.source) client m.delta a l'.log → rev ≡ revision (state_of n0 s) cell + 1 → kept ≡ m.delta → Some at ≡ place_in cell s.logs.items → l'.cell ≡ cell
     → history_of s' ≡ history_of s ++ entry_of by (Client client (Delta cell base d)) (Applied rev kept) ∷ [] → s'.book ≡ with_source cell m.text s.book → s'.joined.items ≡ s.joined.items → s'.logs.items ≡ set s.logs.items at l' → s'.work ≡ swept s'.book s.work
     → HasAnswered n0 by (Client client (Delta cell base d)) s s' (Applied rev a.delta)
-taken-session n0 s s' by client cell base rev at d kept c m a l' is member is_found moved taken r k place named grown eb ej el ew =
+taken-session n0 s s' by client cell base rev at d kept c m a old l' is member is_found moved stands taken r k place named grown eb ej el ew =
     let st : State = state_of n0 s in
-    let both : Applied (revision st cell + 1) m.delta ≡ Applied a.rev a.delta = sym moved.answered ∙ taken.answered in
-    let x : m.delta ≡ a.delta = applied-delta (revision st cell + 1) a.rev m.delta a.delta both in
-    let number_is : rev ≡ a.rev = r ∙ applied-rev (revision st cell + 1) a.rev m.delta a.delta both in
-    let answer : Applied a.rev a.delta ≡ Applied rev a.delta = ap (λ n. Applied n a.delta) (sym number_is) in
-    let entry : Applied rev kept ≡ Applied a.rev a.delta = ap (λ n. Applied n kept) number_is ∙ ap (Applied a.rev) (k ∙ x) in
-    let t : State = after_call st (Client client (Delta cell base d)) (Applied a.rev a.delta) in
+    let x : m.delta ≡ a.delta = sym taken.delta in
+    let answered : delta_reply st cell base d (Some c) ≡ Applied rev a.delta = moved.answered ∙ (ap (λ n. Applied n m.delta) (sym r) ∙ ap (Applied rev) x) in
+    let entry : Applied rev kept ≡ Applied rev a.delta = ap (Applied rev) (k ∙ x) in
+    let t : State = after_call st (Client client (Delta cell base d)) (Applied rev a.delta) in
     let text : m.text ≡ text_after a.delta c.source = moved.moves.makes ∙ ap (λ y. text_after y c.source) x in
     let there : found cell (cells st.book) ≡ Some c = subst (λ n. found cell (cells n) ≡ Some c) is.book is_found in
     let notebook : IsNotebook st.book = (orderly-state n0 (history_of s) is.opening is.legal).book in
     let book : s'.book ≡ t.book =
     eb ∙ (ap (λ y. with_source cell y s.book) text ∙ (ap (with_source cell (text_after a.delta c.source)) is.book ∙ sym (with-one (moved_source cell a.delta) cell (text_after a.delta) st.book c (changes-one cell a.delta) (live-apart st.book notebook) there))) in
-    let own : IsLogIn t l' = own-log st t cell a.delta c l' refl there named taken.after in
-    let logs : AreLogs t (set s.logs.items at l') = replaced st t cell at s.logs.items l' is.logs (stays-else st client cell base a.rev d a.delta) place named own (λ j l. live-before (moved_source cell a.delta) st.book j l) in
-    let done : HasAnswered n0 by (Client client (Delta cell base d)) s s' (Applied a.rev a.delta) =
-    answered-session n0 s s' by (Client client (Delta cell base d)) (Applied a.rev a.delta) is tt
-    (sym (delta-answer n0 s client cell base d (Some c) is member there ∙ taken.answered))
+    let after : StandsFor t cell (text_after a.delta c.source) l'.log =
+    stands-taken st cell client base rev d a.delta c.source old l'.log stands r (subst (λ y. IsLog (taking client y (source_in st cell c.source)) l'.log) x taken.after) in
+    let own : IsLogIn t l' = own-log st t cell a.delta c l' refl there named after in
+    let logs : AreLogs t (set s.logs.items at l') = replaced st t cell at s.logs.items l' is.logs (stays-else st client cell base rev d a.delta) place named own (λ j l. live-before (moved_source cell a.delta) st.book j l) in
+    answered-session n0 s s' by (Client client (Delta cell base d)) (Applied rev a.delta) is tt
+    (sym (delta-answer n0 s client cell base d (Some c) is member there ∙ answered))
     (subst (λ y. history_of s' ≡ history_of s ++ entry_of by (Client client (Delta cell base d)) y ∷ []) entry grown)
     book
     (ej ∙ is.joined)
     (subst (AreLogs t) (sym el) logs)
-    (ew ∙ (ap (λ n. swept n s.work) book ∙ ap (swept t.book) is.work)) in
-    subst (HasAnswered n0 by (Client client (Delta cell base d)) s s') answer done
+    (ew ∙ (ap (λ n. swept n s.work) book ∙ ap (swept t.book) is.work))
 
 -- a report
-stays-report : (s : State) (client cell rev : ℕ) → StaysElsewhere s (knowing client cell rev s) cell
+stays-report : (s : State) (client cell rev : ℕ) → StaysElsewhere s (after_call s (Client client (Report cell rev)) Accepted) cell
 stays-report s client cell rev = record {
   stays = λ l e h.
       let other : (cell == l.cell) ≡ false = grind (arith, nat_tests, e) in
-      record { owner = h.owner; is_found = h.is_found; stands = stands-reported s (knowing client cell rev s) l.cell cell client rev h.owner.source l.log h.stands other refl refl refl refl };
+      record { owner = h.owner; is_found = h.is_found; stands = reported-beside s (after_call s (Client client (Report cell rev)) Accepted) l.cell cell client rev h.owner.source l.log h.stands other refl refl refl refl };
 }
 
 pub reported-session : (n0 : Parts) (s s' : Session) (by client cell rev at : ℕ) (c : Cell) (l' : CellLog) → IsSession n0 s → is_in client s.joined.items ≡ true → found cell (cells (state_of n0 s).book) ≡ Some c → rev ≤ revision (state_of n0 s) cell
-    → StandsFor (knowing client cell rev (state_of n0 s)) cell c.source l'.log → Some at ≡ place_in cell s.logs.items → l'.cell ≡ cell
+    → StandsFor (after_call (state_of n0 s) (Client client (Report cell rev)) Accepted) cell c.source l'.log → Some at ≡ place_in cell s.logs.items → l'.cell ≡ cell
     → history_of s' ≡ history_of s ++ entry_of by (Client client (Report cell rev)) Accepted ∷ [] → s'.book ≡ s.book → s'.joined.items ≡ s.joined.items → s'.logs.items ≡ set s.logs.items at l' → s'.work ≡ s.work
     → HasAnswered n0 by (Client client (Report cell rev)) s s' Accepted
 reported-session n0 s s' by client cell rev at c l' is member there low stands place named grown eb ej el ew =
     let st : State = state_of n0 s in
-    let t : State = knowing client cell rev st in
+    let t : State = after_call st (Client client (Report cell rev)) Accepted in
     let not_new : nat_lt (revision st cell) rev ≡ false = grind (arith, nat_tests, low) in
     let own : IsLogIn t l' = record { owner = c; is_found = ap (λ n. found n (cells st.book)) named ∙ there; stands = subst (λ n. StandsFor t n c.source l'.log) (sym named) stands } in
     answered-session n0 s s' by (Client client (Report cell rev)) Accepted is tt

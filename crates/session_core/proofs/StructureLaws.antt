@@ -38,12 +38,12 @@ use Rattle.session_ops.proofs.Orderly.{orderly-state}
 use Rattle.session_ops.proofs.Settled.{hopeful-state}
 use Rattle.session_ops.proofs.Structures.{HasChanged, made-new, stays-live}
 use Rattle.session_ops.proofs.Sweeps.{swept-same}
-use Rattle.revisions.proofs.Others.{stands-same}
-use Rattle.revisions.specs.Stands.{StandsFor}
 use Rattle.session_core.specs.declared.logs.CellLog.{CellLog}
 use Rattle.session_core.specs.declared.session.Session.{Session}
 use Rattle.session_core.specs.Logs.{AreLogs, IsLogIn, IsFreshIn, IsNewLog, log_cell, log_lives}
 use Rattle.session_core.specs.Session.{IsSession, Holds, HasAnswered, HasMade, HasNotMade, IsAsBefore, first_of, new_source, takes_away, told_change, history_of, state_of, entry_of}
+use Rattle.session_core.specs.Stands.{StandsFor}
+use Rattle.session_core.proofs.Others.{stands-same}
 use Rattle.session_core.proofs.Owners.{found-some, logs-work}
 use Rattle.session_core.proofs.SessionLaws.{answered-holding, before-holding, member-reply, outsider-reply}
 

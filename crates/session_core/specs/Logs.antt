@@ -9,7 +9,7 @@ use Rattle.session_ops.specs.declared.entry.Call.TheVariants.{Client}
 use Rattle.session_ops.specs.declared.entry.Reply.TheVariants.{Accepted}
 use Rattle.session_ops.specs.Numbers.{is_in, AreOnce}
 use Rattle.session_ops.specs.State.{State, after_call, first_source, taken_by, floor, opening, revision}
-use Rattle.revisions.specs.Stands.{StandsFor}
+use Rattle.session_core.specs.Stands.{StandsFor}
 use Rattle.session_core.specs.declared.logs.CellLog.{CellLog}
 
 -- the cell that a log is of

@@ -8,8 +8,9 @@ ghost use Rattle.session_ops.specs.declared.entry.Op.TheVariants.{Delta as IsDel
 ghost use Rattle.session_ops.specs.declared.entry.Reply.TheVariants.{Refused};
 ghost use Rattle.session_ops.specs.Numbers.{is_in};
 ghost use Rattle.session_ops.specs.State.{State, reply, report_reply};
-ghost use Rattle.revisions.specs.Stands.{IsMoved, IsReportCause};
+ghost use Rattle.revisions.specs.Answer.{IsReportCause};
 ghost use Rattle.session_core.specs.Logs.{place_in};
+ghost use Rattle.session_core.specs.Stands.{IsMovedIn, source_in};
 ghost use Rattle.session_core.specs.Session.{IsSession, HasAnswered, IsAsBefore, state_of, told};
 
 use crate::clients::is_in;
@@ -63,8 +64,8 @@ impl Session {
     /// Takes a client's delta, as it was moved to the present source.
     fn take(&mut self, by: u32, at: usize, edit: Edit, moved: Move) -> Result<Reply, AllocError>
         requires { Some at ≡ place_in edit.cell self.old.logs.items }
-        ensures ok { (n0 : Parts) (c : Cell) → IsSession n0 self.old → is_in edit.client self.old.joined.items ≡ true → found edit.cell (cells self.old.book) ≡ Some c → IsMoved (state_of n0 self.old) edit.cell c edit.base edit.delta moved → IfOk result (HasAnswered n0 by (Client edit.client (IsDelta edit.cell edit.base edit.delta)) self.old self.new) }
-        ensures err { (n0 : Parts) (c : Cell) → IsSession n0 self.old → is_in edit.client self.old.joined.items ≡ true → found edit.cell (cells self.old.book) ≡ Some c → IsMoved (state_of n0 self.old) edit.cell c edit.base edit.delta moved → OnErr result (IsAsBefore n0 self.old self.new) }
+        ensures ok { (n0 : Parts) (c : Cell) → IsSession n0 self.old → is_in edit.client self.old.joined.items ≡ true → found edit.cell (cells self.old.book) ≡ Some c → IsMovedIn (state_of n0 self.old) edit.cell c edit.base edit.delta moved → IfOk result (HasAnswered n0 by (Client edit.client (IsDelta edit.cell edit.base edit.delta)) self.old self.new) }
+        ensures err { (n0 : Parts) (c : Cell) → IsSession n0 self.old → is_in edit.client self.old.joined.items ≡ true → found edit.cell (cells self.old.book) ≡ Some c → IsMovedIn (state_of n0 self.old) edit.cell c edit.base edit.delta moved → OnErr result (IsAsBefore n0 self.old self.new) }
     {
         let Edit {
             client,
@@ -75,8 +76,8 @@ impl Session {
         let Some(rev) = self.logs[at].log.rev().checked_add(1) else {
             return Err(AllocError);
         };
-        let source = moved.text.copy()?;
-        let kept = moved.delta.copy(self.alloc)?;
+        let source = moved.text().copy()?;
+        let kept = moved.delta().copy(self.alloc)?;
         self.history.push(Entry {
             by,
             call: Call::Client {
@@ -181,7 +182,7 @@ fn told(fault: RevError) -> Option<Refusal>
 
 /// How a client is told that its report isn't noted.
 fn told_report(fault: ReportError) -> Refusal
-    ensures { (s : State) (cell : ℕ) (c : Cell) (rev : ℕ) → IsReportCause s cell rev fault → report_reply s cell rev (Some c) ≡ Refused result }
+    ensures { (s : State) (cell : ℕ) (c : Cell) (rev : ℕ) → IsReportCause (source_in s cell c.source) rev fault → report_reply s cell rev (Some c) ≡ Refused result }
 {
     match fault {
         ReportError::TooNew { now } => Refusal::TooNew { now },

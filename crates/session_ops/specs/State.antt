@@ -1,10 +1,9 @@
 -- What a history makes of the opening notebook, and which histories are legal.
-use Rattle.std.specs.Prelude.{◌≡◌, ℕ, ◌+◌, ◌==◌, ◌&&◌, ◌||◌, nat_lt, nat_le, max, min, if◌then◌else◌, Bool, List, [], ◌∷◌, ◌++◌, not, length, drop, map, filter, find, Option, Some, None, IsSome, unwrap_or}
+use Rattle.std.specs.Prelude.{◌≡◌, ℕ, ◌+◌, ◌==◌, ◌&&◌, ◌||◌, nat_lt, max, min, if◌then◌else◌, Bool, List, [], ◌∷◌, ◌++◌, not, length, drop, map, filter, find, Option, Some, None, IsSome, unwrap_or}
 use Rattle.std.specs.Str.{encode_utf8_all}
-use Rattle.utf16_text.specs.Units.{unit_count}
 use Rattle.delta.specs.declared.Step.{Step}
-use Rattle.delta.specs.Steps.{reach_of, broken_cut}
 use Rattle.delta.specs.Moves.{text_after, over}
+pub use Rattle.delta_laws.specs.Misfits.{Misfit, Past, Splits, misfit, split_misfit}
 use Rattle.notebook.specs.declared.parts.Cell.{Cell}
 use Rattle.notebook.specs.declared.parts.Parts.{Parts}
 use Rattle.notebook.specs.declared.parts.Passed.{Passed}
@@ -103,19 +102,6 @@ least_among s cell (n ∷ ns) = least_floor cell s.known n ns
 
 abbrev pub least : State → ℕ → ℕ
 least s cell = least_among s cell s.joined
-
--- what keeps a delta from a text: it reaches past the text's units, or cuts inside a character
-pub data Misfit : Type 0 where
-  Past : ℕ → Misfit
-  Splits : ℕ → Misfit
-
-abbrev pub split_misfit : Option ℕ → Option Misfit
-split_misfit None = None
-split_misfit (Some at) = Some (Splits at)
-
--- why a delta doesn't fit a text: nothing where it fits
-abbrev pub misfit : List Step → List ℕ → Option Misfit
-misfit d t = if nat_le (reach_of d) (unit_count t) then split_misfit (broken_cut d t) else Some (Past (unit_count t))
 
 abbrev pub refusal_of : Misfit → Refusal
 refusal_of (Past len) = PastEnd len

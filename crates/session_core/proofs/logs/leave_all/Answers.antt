@@ -3,6 +3,7 @@ use Rattle.session_ops.specs.State.{State, once_left}
 use Rattle.session_core.specs.Logs.{ArePast, IsLogIn}
 use Rattle.session_core.specs.declared.logs.CellLog.{CellLog}
 use Rattle.session_core.proofs.LogLaws.{cells-set, past-at, past-forth, past-all}
+use Rattle.session_core.proofs.Standing.{stands-left}
 use Rattle.session_core.proofs.logs.leave_all.Goals as goal
 
 pub loop-at-preserved : goal.loop-at-preserved
@@ -17,7 +18,7 @@ loop-at-preserved c =
           let t : State = once_left c.args.client s in
           let k : IsLogIn s (get_or ls at x) = subst (IsLogIn s) c.index-logs-at.is (past-at (IsLogIn t) (IsLogIn s) at ls x (c.loop-at.invariant.1 s h) lt c.index-logs-at.is) in
           let up : suc at ≡ at + 1 = omega arith in
-          subst (λ n. ArePast (IsLogIn t) (IsLogIn s) n (set ls at l)) up (past-forth (IsLogIn t) (IsLogIn s) at ls l (c.loop-at.invariant.1 s h) lt (record { owner = k.owner; is_found = k.is_found; stands = c.left.ensures.gone s _ k.owner.source k.stands })),
+          subst (λ n. ArePast (IsLogIn t) (IsLogIn s) n (set ls at l)) up (past-forth (IsLogIn t) (IsLogIn s) at ls l (c.loop-at.invariant.1 s h) lt (record { owner = k.owner; is_found = k.is_found; stands = stands-left s _ c.args.client k.owner.source _ c.left.new.self k.stands (c.left.ensures.gone _ k.stands.log_of) })),
     )
 
 pub returns-clause-logs : goal.returns-clause-logs

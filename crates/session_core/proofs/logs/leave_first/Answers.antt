@@ -5,6 +5,7 @@ use Rattle.session_core.specs.Logs.{ArePast, IsLogIn, once_joined}
 use Rattle.session_core.specs.declared.logs.CellLog.{CellLog}
 use Rattle.session_core.proofs.LogLaws.{cells-set, past-last, past-back}
 use Rattle.session_core.proofs.Owners.{found-some}
+use Rattle.session_core.proofs.Standing.{stands-again}
 use Rattle.session_core.proofs.logs.leave_first.Goals as goal
 
 pub loop-left-preserved : goal.loop-left-preserved
@@ -22,6 +23,6 @@ loop-left-preserved c =
             let t : State = once_joined c.args.client s in
             let past = subst (λ k. ArePast (IsLogIn t) (IsLogIn s) k ls) up (c.loop-left.invariant.1.1 s out h) in
             let k : IsLogIn t (get_or ls n x) = subst (IsLogIn t) c.index-logs-left.is (past-last (IsLogIn t) (IsLogIn s) n ls x past low c.index-logs-left.is) in
-            past-back (IsLogIn t) (IsLogIn s) n ls l past low (record { owner = k.owner; is_found = k.is_found; stands = c.left.ensures.undone s _ k.owner.source k.stands out (found-some _ k.owner k.is_found) }),
+            past-back (IsLogIn t) (IsLogIn s) n ls l past low (record { owner = k.owner; is_found = k.is_found; stands = stands-again s _ c.args.client k.owner.source _ c.left.new.self k.stands out (found-some _ k.owner k.is_found) (c.left.ensures.gone _ k.stands.log_of) }),
       ),
     )

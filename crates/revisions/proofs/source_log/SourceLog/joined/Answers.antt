@@ -1,6 +1,14 @@
-use Rattle.std.proofs.Common.{refl}
-use Rattle.revisions.proofs.Standing.{stands-joined}
+use Rattle.std.proofs.Common.{ap, ◌∙◌, arith}
+use Rattle.revisions.specs.Floors.{with_client}
+use Rattle.revisions.specs.Source.{joining, rev_of}
+use Rattle.revisions.proofs.Keeping.{refloored}
+use Rattle.revisions.proofs.Lowest.{lowest-joined}
 use Rattle.revisions.proofs.source_log.SourceLog.joined.Goals as goal
 
 pub returns-clause-ok : goal.returns-clause-ok
-returns-clause-ok c = λ s cell text h out live. stands-joined s cell text c.args.self.now _ c.args.client h out live refl refl refl refl c.in_ok-push.ensures.items
+returns-clause-ok c = λ s h.
+    let old = c.args.self.now in
+    let client = c.args.client in
+    c.let_go.ensures (joining client s)
+    (refloored s old _ _ h.holds (c.in_ok-put.ensures.ok ∙ (ap (λ r. with_client client r old.floors) h.holds.rev ∙ ap (with_client client (rev_of s)) h.holds.known)))
+    (omega (arith, h.lowest, lowest-joined client (rev_of s) s.floors))

@@ -1,35 +1,21 @@
-use Rattle.std.proofs.Common.{◌∙◌, ap, refl}
-use Rattle.std.specs.Prelude.{filter}
-use Rattle.session_ops.specs.declared.entry.Op.TheVariants.{Join}
-use Rattle.session_ops.specs.declared.entry.Call.TheVariants.{Client}
-use Rattle.session_ops.specs.declared.entry.Reply.TheVariants.{Accepted as IsAccepted}
-use Rattle.session_ops.specs.State.{State, first_source, taken_by, revision, after_call}
-use Rattle.revisions.specs.Floors.{floors_of, is_of_other}
-use Rattle.revisions.proofs.Leaving.{stands-left, left-again}
-use Rattle.revisions.proofs.Standing.{refloored, stands-without, left-low}
+use Rattle.std.proofs.Common.{◌≡◌, false, List, sym, ap, ◌∙◌, arith}
+use Rattle.revisions.specs.declared.floors.Floor.{Floor}
+use Rattle.revisions.specs.Floors.{has_floor, without}
+use Rattle.revisions.specs.Log.{IsLog}
+use Rattle.revisions.specs.Source.{Source, leaving, rev_of}
+use Rattle.revisions.proofs.Keeping.{refloored, same-floors}
+use Rattle.revisions.proofs.Lowest.{lowest-left, without-stranger}
 use Rattle.revisions.proofs.source_log.SourceLog.left.Goals as goal
 
-pub returns-clause-gone : goal.returns-clause-gone
-returns-clause-gone c = λ s cell text h.
-    let first = first_source cell s.began in
-    let taken = taken_by cell s.taken in
-    let floors = floors_of cell s.known s.joined in
+pub returns-then-has-clause-gone : goal.returns-then-has-clause-gone
+returns-then-has-clause-gone c = λ s h.
+    let old = c.args.self.now in
     let client = c.args.client in
-    stands-left s client cell text c.let_go.new.self
-    (stands-without s cell text c.let_go.new.self client h.known
-    (c.let_go.ensures first taken (filter (is_of_other client) floors) text
-    (refloored first taken floors (filter (is_of_other client) floors) text c.args.self.now _ h.log_of.holds refl refl refl refl (c.remove_floor.ensures ∙ ap (filter (is_of_other client)) h.log_of.holds.known))
-    (left-low (revision s cell) floors client c.args.self.now.least h.log_of.lowest)))
+    c.let_go.ensures (leaving client s)
+    (refloored s old _ _ h.holds (c.remove.ensures ∙ ap (without client) h.holds.known))
+    (omega (arith, h.lowest, lowest-left client (rev_of s) s.floors))
 
-pub returns-clause-undone : goal.returns-clause-undone
-returns-clause-undone c = λ s cell text h out live.
-    let client = c.args.client in
-    let t : State = after_call s (Client client Join) IsAccepted in
-    let first = first_source cell t.began in
-    let taken = taken_by cell t.taken in
-    let floors = floors_of cell t.known t.joined in
-    left-again s client cell text c.let_go.new.self out live
-    (stands-without t cell text c.let_go.new.self client h.known
-    (c.let_go.ensures first taken (filter (is_of_other client) floors) text
-    (refloored first taken floors (filter (is_of_other client) floors) text c.args.self.now _ h.log_of.holds refl refl refl refl (c.remove_floor.ensures ∙ ap (filter (is_of_other client)) h.log_of.holds.known))
-    (left-low (revision t cell) floors client c.args.self.now.least h.log_of.lowest)))
+pub returns-else-has-clause-gone : goal.returns-else-has-clause-gone
+returns-else-has-clause-gone c = λ s h.
+    let out : has_floor c.args.client s.floors ≡ false = ap (has_floor c.args.client) (sym h.holds.known) ∙ sym c.if-has.ensures in
+    same-floors s (without c.args.client s.floors) c.args.self.now h (sym (without-stranger c.args.client s.floors out))

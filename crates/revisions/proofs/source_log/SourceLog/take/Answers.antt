@@ -1,13 +1,23 @@
-use Rattle.session_ops.specs.State.{first_source, taken_by}
-use Rattle.revisions.specs.Floors.{floors_of}
-use Rattle.revisions.proofs.Standing.{taken-moved}
+use Rattle.std.proofs.Common.{◌≡◌, ◌+◌, ◌∙◌, ap, refl, arith}
+use Rattle.utf16_text.specs.Units.{unit_count}
+use Rattle.revisions.specs.declared.kept.Kept.{Kept}
+use Rattle.revisions.specs.Floors.{raised}
+use Rattle.revisions.specs.Source.{taking}
+use Rattle.revisions.proofs.Keeping.{more-holds, more-low}
 use Rattle.revisions.proofs.source_log.SourceLog.take.Goals as goal
 
-pub returns-in-Ok : goal.returns-in-Ok
-returns-in-Ok c = λ s cell c' base d h q.
-    let t = c.in-Ok.ensures (first_source cell s.began) (taken_by cell s.taken) (floors_of cell s.known s.joined) c'.source h.log_of q.moves in
-    taken-moved s cell c.args.client base d c' c.args.self.now c.keep.new.self c.args.moved c.in-Ok.accepted h q t.0 t.1 t.2
-
-pub returns-in-Err : goal.returns-in-Err
-returns-in-Err c = λ s cell c' base d h q.
-    record { log_of = c.in-Err.ensures (first_source cell s.began) (taken_by cell s.taken) (floors_of cell s.known s.joined) c'.source h.log_of q.moves; known = h.known }
+pub returns-clause-ok : goal.returns-clause-ok
+returns-clause-ok c = λ s h m.
+    let old = c.args.self.now in
+    let client = c.args.client in
+    let x = c.args.moved.delta in
+    let k : Kept = record { len = c.unit_len-len.result; delta = c.in_ok-delta.delta } in
+    let next : c.in-Some.rev ≡ old.rev + 1 = search arith in
+    record {
+      rev = next ∙ ap (λ a. a + 1) h.holds.rev;
+      delta = refl;
+      after =
+          c.let_go.ensures (taking client x s)
+          (more-holds s old _ client x k h m.fits (c.unit_len-len.ensures ∙ ap unit_count c.as_str.ensures.characters) c.in_ok-delta.ensures m.makes next refl c.in_ok-push.ensures.ok (c.raise.ensures ∙ ap (λ r. raised client r old.floors) next))
+          (more-low s old client x h);
+    }

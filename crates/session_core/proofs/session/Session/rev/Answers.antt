@@ -1,6 +1,7 @@
 use Rattle.std.proofs.Common.{◌≡◌, None, Some, subst, arith}
 use Rattle.session_core.specs.Logs.{place_in}
 use Rattle.session_core.specs.Session.{state_of}
+use Rattle.session_core.specs.Stands.{source_in}
 use Rattle.session_core.proofs.Owners.{placed, absent, place-within}
 use Rattle.session_core.proofs.ReaderLaws.{revision-found, revision-absent}
 use Rattle.session_core.proofs.session.Session.rev.Goals as goal
@@ -19,4 +20,4 @@ returns-in-Some c = λ n0 is.
     let st = state_of n0 s in
     let at = c.in-Some.at in
     let p = placed st c.args.cell at s.logs.items c.index.result.now is.logs.logs (subst (λ ls. Some at ≡ place_in c.args.cell ls) c.as_slice.ensures.value c.in-Some.ensures) c.index.ensures in
-    revision-found st c.args.cell c.rev.result c.index.result.now p.named p.is (c.rev.ensures st c.index.result.now.cell p.is.owner.source p.is.stands)
+    revision-found st c.args.cell c.rev.result c.index.result.now p.named p.is (c.rev.ensures (source_in st c.index.result.now.cell p.is.owner.source) p.is.stands.log_of)
