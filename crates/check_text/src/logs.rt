@@ -81,8 +81,12 @@ pub fn at_one_place(alloc: Global) -> Option<usize> {
             (Report(9, 3), "Ok(())", "'cab' 3 3"),
             (Join(5), "Ok(())", "'cab' 3 3"),
             (Accept(5, 3, &[Keep(1), Cut(1)]), "Ok(4)", "'cb' 4 3"),
-            (Leave(7), "Ok(())", "'cb' 4 3"),
-            (Leave(9), "Ok(())", "'cb' 4 4"),
+            (Join(9), "Ok(())", "'cb' 4 3"),
+            (Leave(8), "Ok(())", "'cb' 4 3"),
+            (Join(7), "Ok(())", "'cb' 4 4"),
+            (Leave(7), "Ok(())", "'cb' 4 4"),
+            (Accept(5, 4, &[Cut(1)]), "Ok(5)", "'b' 5 4"),
+            (Leave(9), "Ok(())", "'b' 5 5"),
         ],
     )
 }

@@ -12,10 +12,10 @@ use Rattle.revisions.specs.declared.kept.Kept.{Kept}
 use Rattle.revisions.specs.declared.moved.Move.{Move}
 use Rattle.revisions.specs.declared.source_log.Accepted.{Accepted}
 use Rattle.revisions.specs.declared.source_log.SourceLog.{SourceLog}
-use Rattle.revisions.specs.Answer.{Takes, TooNew, TooOld, IsCause, IsWithin, answer, fitted, judged}
+use Rattle.revisions.specs.Answer.{Takes, TooNew, TooOld, IsCause, answer, fitted, judged}
 use Rattle.revisions.specs.Kept.{deltas_of, made_by, LeadsTo, HaveLens}
 use Rattle.revisions.specs.Log.{Holds, IsLog, HasTaken, IsTaken}
-use Rattle.revisions.specs.Moved.{IsMove, IsMoved, BecomesMove, IsMoveCause}
+use Rattle.revisions.specs.Moved.{IsMoved, BecomesMove, IsMoveCause}
 use Rattle.revisions.specs.Source.{Source, rev_of, least_of, taking}
 use Rattle.revisions.proofs.Chains.{deltas-drop, made-take, leads-from, lens-from}
 

@@ -4,7 +4,7 @@ ghost use Rattle.utf16_text.specs.Units.{unit_count};
 ghost use Rattle.delta.specs.Moves.{transformed, over};
 ghost use Rattle.revisions.specs.Kept.{deltas_of, LeadsTo, HaveLens};
 
-use delta::{Delta, Side, have_room, transform};
+use delta::{Delta, Side};
 use std::alloc::{AllocError, Global};
 use std::collections::VecDeque;
 use std::marker::Model;
@@ -102,10 +102,7 @@ fn moved_over(
 fn moved_over_one(alloc: Global, delta: &Delta, taken: &Delta) -> Result<Delta, AllocError>
     ensures { IfOk result (λ moved. moved ≡ transformed false taken.now delta.now) }
 {
-    if !have_room(taken, delta) {
-        return Err(AllocError);
-    }
-    transform(alloc, taken, delta, Side::Left)
+    transformed(alloc, taken, delta, Side::Left)
 }
 
 fn drop_first(kept: &mut VecDeque<Kept>, count: u64)

@@ -10,7 +10,7 @@ ghost use Rattle.section_queues.specs.Starts.{earlier, is_due, is_settled, may_s
 use crate::facts::CellFacts;
 use crate::walk::{is_same_lane, own_cells, stands_in};
 use crate::wants::{LaneRun, Wants};
-use notebook::{CellId, Lane, Notebook, Steps};
+use notebook::{CellId, FlowCells, Lane, Notebook};
 
 /// Whether the cell stands in the flow of one of these.
 fn is_asked(book: &Notebook, cell: CellId, queued: &[CellId]) -> bool
@@ -32,7 +32,7 @@ fn first_due<F: CellFacts>(
     wants: &Wants,
     book: &Notebook,
     facts: &F,
-    cells: Steps<'_>,
+    cells: FlowCells<'_>,
 ) -> Option<CellId>
     ensures { result ≡ find (is_due book.now
         (known (F.evaluated_cells facts.now) (F.faulty_cells facts.now)) wants.now)
@@ -68,7 +68,7 @@ fn is_settled<F: CellFacts>(wants: &Wants, facts: &F, cell: CellId) -> bool
 }
 
 /// Whether all of these cells are settled.
-fn are_settled<F: CellFacts>(wants: &Wants, facts: &F, cells: Steps<'_>) -> bool
+fn are_settled<F: CellFacts>(wants: &Wants, facts: &F, cells: FlowCells<'_>) -> bool
     ensures { result ≡ list_all (is_settled
         (known (F.evaluated_cells facts.now) (F.faulty_cells facts.now)) wants.now)
         (map cell_number (left cells.entry)) }

@@ -9,7 +9,7 @@ ghost use Rattle.section_queues.specs.Calls.{is_hopeful, swept};
 
 use crate::facts::CellFacts;
 use crate::wants::Wants;
-use notebook::{CellId, Notebook, Steps};
+use notebook::{CellId, FlowCells, Notebook};
 use plain_list::Items;
 use std::alloc::{AllocError, Global};
 
@@ -22,7 +22,7 @@ fn has_failed<F: CellFacts>(facts: &F, cell: CellId) -> bool
 }
 
 /// The first of these cells that is evaluated and shows a fault.
-fn first_failed<F: CellFacts>(facts: &F, cells: Steps<'_>) -> Option<CellId>
+fn first_failed<F: CellFacts>(facts: &F, cells: FlowCells<'_>) -> Option<CellId>
     ensures { result ≡ find (has_failed
         (known (F.evaluated_cells facts.now) (F.faulty_cells facts.now)))
         (map cell_number (left cells.entry)) }

@@ -7,10 +7,10 @@ ghost use Rattle.notebook.specs.Flow.{is_cell};
 ghost use Rattle.section_queues.specs.Starts.{own_cells, is_branch, stands_in};
 ghost use Rattle.section_queues.specs.Wanted.{same_lane};
 
-use notebook::{CellId, Lane, Notebook, Section, SectionId, Steps};
+use notebook::{CellId, FlowCells, Lane, Notebook, Section, SectionId};
 
 /// Whether a cell is among these.
-fn has_cell(cells: Steps<'_>, id: CellId) -> bool
+fn has_cell(cells: FlowCells<'_>, id: CellId) -> bool
     ensures { result ≡ list_any (is_cell id) (left cells.entry) }
 {
     let mut rest = cells;
@@ -59,14 +59,14 @@ fn branch_of(sections: &[Section], id: SectionId) -> Option<&Section>
 }
 
 /// A lane's own cells; none where there is no such lane.
-pub(crate) fn own_cells(book: &Notebook, lane: Lane) -> Steps<'_>
+pub(crate) fn own_cells(book: &Notebook, lane: Lane) -> FlowCells<'_>
     ensures { left result ≡ own_cells book.now lane }
 {
     match lane {
-        Lane::Main => Steps::of_main(book.parts()),
+        Lane::Main => FlowCells::of_main(book.parts()),
         Lane::Branch(section) => match branch_of(book.parts().sections.as_slice(), section) {
-            None => Steps::none(),
-            Some(branch) => Steps::of_section(branch),
+            None => FlowCells::none(),
+            Some(branch) => FlowCells::of_section(branch),
         },
     }
 }

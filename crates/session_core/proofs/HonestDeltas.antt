@@ -1,5 +1,5 @@
 -- A delta of a joined client, based on a revision from its floor on and fitting the source that the cell had then, is applied.
-use Rattle.std.proofs.Common.{◌≡◌, ℕ, ◌+◌, ◌≤◌, inl, inr, true, List, [], ◌∷◌, Some, take, drop, refl, sym, ap, subst, ◌∙◌}
+use Rattle.std.proofs.Common.{◌≡◌, ℕ, ◌+◌, ◌≤◌, inl, inr, true, List, [], ◌∷◌, Some, take, drop, sym, ap, subst, ◌∙◌}
 use Rattle.std.proofs.lemmas.Bool.Decides.{eqb_tells}
 use Rattle.delta.specs.declared.Step.{Step}
 use Rattle.delta.specs.Moves.{FitsText, over}

@@ -6,8 +6,7 @@ use Rattle.notebook.specs.declared.parts.Cell.{Cell}
 use Rattle.notebook.specs.Book.{found}
 use Rattle.session_ops.specs.Numbers.{is_in, is_other}
 use Rattle.session_ops.specs.State.{State, Known, floor, least_floor, least_among, revision, knows_all, is_of_other as is_known_of_other}
-use Rattle.revisions.specs.declared.floors.Floor.{Floor}
-use Rattle.revisions.specs.Floors.{at_zero, has_floor, lowest, raised_one, raised, is_of_other, without, with_client}
+use Rattle.revisions.specs.Floors.{at_zero, has_floor, lowest, raised_one, raised, without, with_client}
 use Rattle.revisions.proofs.Lowest.{lowest-cons, without-stranger}
 use Rattle.session_core.specs.Stands.{floors_of}
 

@@ -16,8 +16,8 @@ use Rattle.session_ops.specs.State.{State, Taken, after_call, once_left, taken_b
 use Rattle.revisions.specs.declared.floors.Floor.{Floor}
 use Rattle.revisions.specs.declared.moved.Move.{Move}
 use Rattle.revisions.specs.declared.source_log.SourceLog.{SourceLog}
-use Rattle.revisions.specs.Answer.{Answer, TooNew, TooOld, answer, fitted, judged}
-use Rattle.revisions.specs.Floors.{raised, with_client, without}
+use Rattle.revisions.specs.Answer.{TooNew, TooOld, answer, fitted, judged}
+use Rattle.revisions.specs.Floors.{raised}
 use Rattle.revisions.specs.Log.{IsLog}
 use Rattle.revisions.specs.Moved.{IsMoved}
 use Rattle.revisions.specs.Source.{Source, begun, taking, reporting, joining, leaving, least_of}

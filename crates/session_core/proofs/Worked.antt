@@ -4,7 +4,7 @@ use Rattle.delta.specs.declared.Step.{Step}
 use Rattle.delta.specs.declared.Step.TheVariants.{Retain, Insert, Delete as Erase}
 use Rattle.notebook.specs.Book.{untitled}
 use Rattle.revisions.specs.Answer.{answer}
-use Rattle.revisions.specs.Source.{Source, least_of}
+use Rattle.revisions.specs.Source.{least_of}
 use Rattle.session_ops.specs.declared.entry.Op.TheVariants.{Join, Leave, Delta, Report}
 use Rattle.session_ops.specs.declared.entry.Call.{Call}
 use Rattle.session_ops.specs.declared.entry.Call.TheVariants.{Client}

@@ -1,4 +1,3 @@
-use Rattle.revisions.proofs.Answering.{taken-so}
 use Rattle.revisions.proofs.Honest.{honest-cause}
 use Rattle.revisions.proofs.source_log.SourceLog.accept.Goals as goal
 

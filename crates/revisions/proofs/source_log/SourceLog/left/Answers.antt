@@ -1,8 +1,6 @@
-use Rattle.std.proofs.Common.{◌≡◌, false, List, sym, ap, ◌∙◌, arith}
-use Rattle.revisions.specs.declared.floors.Floor.{Floor}
+use Rattle.std.proofs.Common.{◌≡◌, false, sym, ap, ◌∙◌, arith}
 use Rattle.revisions.specs.Floors.{has_floor, without}
-use Rattle.revisions.specs.Log.{IsLog}
-use Rattle.revisions.specs.Source.{Source, leaving, rev_of}
+use Rattle.revisions.specs.Source.{leaving, rev_of}
 use Rattle.revisions.proofs.Keeping.{refloored, same-floors}
 use Rattle.revisions.proofs.Lowest.{lowest-left, without-stranger}
 use Rattle.revisions.proofs.source_log.SourceLog.left.Goals as goal

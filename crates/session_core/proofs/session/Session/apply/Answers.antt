@@ -1,4 +1,3 @@
-use Rattle.std.proofs.Common.{◌≡◌}
 use Rattle.session_ops.specs.declared.entry.Call.TheVariants.{Client}
 use Rattle.session_core.proofs.SessionLaws.{same-state-ok}
 use Rattle.session_core.proofs.session.Session.apply.Goals as goal
