@@ -11,10 +11,10 @@ ghost use Rattle.freshness.specs.Validity.{validity_of, validity_on};
 use crate::mark::Finished;
 use crate::marks::Marks;
 use crate::walk::is_path;
-use notebook::{CellId, Steps, Validity};
+use notebook::{CellId, FlowCells, Validity};
 
 /// What an evaluation that was not broken off is worth, where the cell's flow is this one.
-fn worth(last: Option<&Finished>, flow: Steps<'_>) -> Validity
+fn worth(last: Option<&Finished>, flow: FlowCells<'_>) -> Validity
     ensures { result ≡ validity_by_path (option_map path_read (option_copied last.entry)) (map passed (left flow.entry)) }
 {
     match last {
@@ -30,7 +30,7 @@ fn worth(last: Option<&Finished>, flow: Steps<'_>) -> Validity
 }
 
 /// What the cell's last finished evaluation is worth, where the cell's flow is this one.
-fn validity_on(marks: &Marks, cell: CellId, flow: Steps<'_>) -> Validity
+fn validity_on(marks: &Marks, cell: CellId, flow: FlowCells<'_>) -> Validity
     ensures { result ≡ validity_on marks.now cell (map passed (left flow.entry)) }
 {
     match marks.mark(cell) {

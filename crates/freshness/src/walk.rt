@@ -6,7 +6,7 @@ ghost use Rattle.notebook.specs.Rules.{cell_number};
 ghost use Rattle.notebook.specs.Validity.{same_passed, same_path};
 ghost use Rattle.freshness.specs.Following.{code_numbers};
 
-use notebook::{Cell, CellId, Parts, Passed, Steps};
+use notebook::{Cell, CellId, FlowCells, Parts, Passed};
 use plain_list::Items;
 use std::alloc::{AllocError, Global};
 
@@ -18,7 +18,7 @@ fn is_same(read: &Passed, cell: &Cell) -> bool
 }
 
 /// Whether a path that was read goes through these cells, with the sources that they have now.
-pub(crate) fn is_path(read: &[Passed], cells: Steps<'_>) -> bool
+pub(crate) fn is_path(read: &[Passed], cells: FlowCells<'_>) -> bool
     ensures { result ≡ same_path read.now (map passed (left cells.entry)) }
 {
     let mut rest = cells;
@@ -35,7 +35,7 @@ pub(crate) fn is_path(read: &[Passed], cells: Steps<'_>) -> bool
 }
 
 /// The cells with their sources, copied.
-pub(crate) fn path_of(alloc: Global, cells: Steps<'_>) -> Result<Items<Passed>, AllocError>
+pub(crate) fn path_of(alloc: Global, cells: FlowCells<'_>) -> Result<Items<Passed>, AllocError>
     ensures { IfOk result (λ p. p ≡ map passed (left cells.entry)) }
 {
     let mut path = Items::new(alloc);

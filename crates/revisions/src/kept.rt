@@ -5,6 +5,7 @@ ghost use Rattle.delta.specs.Moves.{transformed, over};
 ghost use Rattle.revisions.specs.Kept.{deltas_of, LeadsTo, HaveLens};
 
 use delta::{Delta, Side};
+use delta_laws::transformed;
 use std::alloc::{AllocError, Global};
 use std::collections::VecDeque;
 use std::marker::Model;
