@@ -15,3 +15,4 @@ pub mod Trimming
 pub mod Twice
 pub mod Walking
 mod Worked
+mod WorkedItems

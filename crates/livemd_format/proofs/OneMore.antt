@@ -1,6 +1,6 @@
 -- What items make where one more stands at their end.
-use Rattle.std.proofs.Common.{◌≡◌, ℕ, ◌+◌, ◌-◌, ◌≤◌, suc, Bool, true, false, not, ◌||◌, cond, List, [], ◌∷◌, ◌++◌, Option, Some, None, length, drop, reverse, filter_map, option_to_list, unwrap_or, refl, sym, ap, ◌∙◌, arith, append_assoc, append-nil, length-append, codes}
-use Rattle.std.specs.List.{after_last, before_first, cons_option, flat_map, fold, last_or, list_any, prefix_len, suffix_len}
+use Rattle.std.proofs.Common.{◌≡◌, ℕ, ◌+◌, ◌-◌, suc, Bool, true, false, not, ◌||◌, cond, List, [], ◌∷◌, ◌++◌, Option, Some, None, length, drop, filter_map, option_to_list, unwrap_or, refl, sym, ap, ◌∙◌, arith, append_assoc, append-nil, length-append, codes}
+use Rattle.std.specs.List.{after_last, before_first, cons_option, fold, last_or, list_any, prefix_len, suffix_len}
 use Rattle.std.specs.Str.{chars}
 use Rattle.std.proofs.lemmas.List.{drop-append-le, drop_all, reverse-append}
 use Rattle.std.proofs.lemmas.List.Elements.{filter_map-append}
@@ -8,15 +8,12 @@ use Rattle.std.proofs.lemmas.List.Folds.{list_any-append}
 use Rattle.std.proofs.lemmas.List.Sums.{fold-append, suffix_len-le-length, take_while-cons}
 use Rattle.notebook.specs.declared.parts.Cell.{Cell}
 use Rattle.notebook.specs.declared.parts.Saved.{Saved}
-use Rattle.notebook.specs.declared.parts.Section.{Section}
 use Rattle.notebook.specs.declared.parts.Kind.{Kind}
 use Rattle.notebook.specs.declared.parts.Kind.TheVariants as cell
-use Rattle.notebook.specs.Book.{cells_of}
 use Rattle.blanks.specs.Blanks.{is_empty}
-use Rattle.livemd_format.specs.declared.notices.Notice.{Notice}
 use Rattle.livemd_format.specs.Items as item
 use Rattle.livemd_format.specs.Items.{Item}
-use Rattle.livemd_format.specs.Made.{LinedText, Stretch, cell_at, cell_between, cells_in, end_of, first_section, front, is_cell, last_text, lined, made, made_behind, name_at, name_of, notice_at, outputs, saved_output, section_by, sections_of, setup_at, setup_source, stretch_at, takes_lines, with_stretch}
+use Rattle.livemd_format.specs.Made.{LinedText, Stretch, cell_at, cell_between, cells_in, end_of, first_section, front, is_cell, last_text, lined, made, made_behind, name_at, name_of, notice_at, outputs, saved_output, sections_of, setup_at, setup_source, stretch_at, takes_lines, with_stretch}
 use Rattle.livemd_format.specs.Settled.{is_section}
 use Rattle.livemd_format.specs.Tidy.{numbered}
 use Rattle.livemd_format.specs.Walk.{add_output, on_last}

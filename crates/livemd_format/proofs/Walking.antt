@@ -16,8 +16,8 @@ use Rattle.blanks.specs.Blanks.{is_empty}
 use Rattle.livemd_format.specs.declared.notices.Notice.{Notice}
 use Rattle.livemd_format.specs.Items as item
 use Rattle.livemd_format.specs.Items.{Item}
-use Rattle.livemd_format.specs.Made.{LinedText, bad_branch, branch_index, cell_at, cell_between, cells_in, first_section, front, indexes_at_end, is_cell, kept_at_end, kept_line, lined, made, name_at, name_of, notebook_of, notice_at, notices_of, outputs, parent_by, saved_output, section_by, sections_of, setup_at, setup_source, stem_at, takes_lines, with_stretch}
-use Rattle.livemd_format.specs.Settled.{branch_next, is_section, section_next, settle, settled, settled_branch, settled_stamp}
+use Rattle.livemd_format.specs.Made.{LinedText, bad_branch, branch_index, cell_at, cell_between, cells_in, first_section, front, indexes_at_end, is_cell, kept_at_end, kept_line, lined, made, name_at, name_of, notebook_of, notice_at, notices_of, outputs, parent_by, saved_output, section_by, sections_of, setup_at, setup_source, stem_at, takes_lines}
+use Rattle.livemd_format.specs.Settled.{branch_next, is_section, section_next, settle, settled}
 use Rattle.livemd_format.specs.Walk.{Draft, add_last_output, add_output, drafted, finished, on_last, take_branch, take_cell, with_cell, with_item, with_output, with_section, with_some_section}
 use Rattle.livemd_format.proofs.Adding.{cell_added, cell_of, output_put, parts_at}
 use Rattle.livemd_format.proofs.OneMore.{all_front, at_end_behind, at_end_more, cells_added, cells_output, cells_same, cells_there, end_same, end_taken, end_told, filter_map_more, last_or_more, length-on_last, name_same, name_told, next_in, no_front_more, none_more, notices_more, notices_same, outputs_same, outputs_told, sections_cut, sections_front, setup_same, setup_told, stretch}

@@ -16,13 +16,13 @@ use Rattle.livemd_format.specs.Items.{Item}
 use Rattle.livemd_format.specs.Settled.{is_section, settled}
 use Rattle.livemd_format.specs.Tidy.{numbered}
 
--- what is made of items one by one, of each by the items before it and those behind it; others stand before them
+-- what is made of items one by one: of each by the items before it, itself, and those behind it; others stand before them all
 abbrev pub made_behind : {X : Type 0} → (List Item → Item → List Item → Option X) → List Item → List Item → List X
 made_behind make before [] = []
 made_behind make before (i ∷ is) =
     option_to_list (make before i is) ++ made_behind make (before ++ i ∷ []) is
 
--- the same with nothing before them
+-- the same of items before which nothing stands
 abbrev pub made : {X : Type 0} → (List Item → Item → List Item → Option X) → List Item → List X
 made make is = made_behind make [] is
 
@@ -58,7 +58,7 @@ indexes_at_end is = filter_map branch_index (end_of is)
 
 -- ---- the name and the setup cell's source
 
--- a text with the kept lines directly before it
+-- a text, and the kept lines directly before it
 pub record LinedText : Type 0 where
   pub lines : List (List ℕ)
   pub text : List ℕ
@@ -78,6 +78,7 @@ setup_at before other behind = None
 abbrev pub last_text : List ℕ → List LinedText → LinedText
 last_text otherwise texts = unwrap_or (last_or None texts) (record { lines = []; text = otherwise })
 
+-- the name of a book, and the source of its setup cell
 abbrev pub name_of : List Item → LinedText
 name_of is = last_text (codes "Untitled notebook") (made name_at is)
 
@@ -181,7 +182,7 @@ sections_of is = fold with_stretch (first_section (cells_in 1 (front is))) (made
 
 -- ---- the notebook and the notices
 
--- the notebook with these sections; kept lines that nothing comes for stand behind all
+-- the notebook with these sections; kept lines that nothing takes stand behind all
 abbrev pub notebook_with : List Section → List Item → Parts
 notebook_with sections is = record {
   name = (name_of is).text;
