@@ -1,5 +1,5 @@
 -- Marks that follow a notebook: which cell has which mark then.
-use Rattle.std.proofs.Common.{◌≡◌, ℕ, ◌==◌, ◌&&◌, ◌||◌, Bool, true, false, cond, List, [], ◌∷◌, ◌++◌, Option, Some, None, map, filter, find, refl, sym, ap, subst, ◌∙◌, eqb-true, eq-eqb}
+use Rattle.std.proofs.Common.{◌≡◌, ℕ, ◌==◌, ◌&&◌, ◌||◌, Bool, true, false, cond, List, [], ◌∷◌, ◌++◌, Option, Some, None, map, filter, find, refl, sym, ap, subst, ◌∙◌, eqb-true}
 use Rattle.std.specs.Prelude.{MatchOption, is_some, if◌then◌else◌, unwrap_or, flat_map}
 use Rattle.std.specs.Option.{option_map}
 use Rattle.std.specs.List.{list_any}
@@ -15,7 +15,7 @@ use Rattle.freshness.specs.Marked.{Marked, IsMarked, is_live, is_mark_of, mark_o
 use Rattle.freshness.specs.Calls.{IsBroughtTo, IsNew, mark_in}
 use Rattle.freshness.specs.Places.{IsFirst}
 use Rattle.freshness.proofs.Lists.{first-found}
-use Rattle.freshness.specs.Following.{code_numbers, followed, mark_lives, section_numbers, with_mark, with_marks}
+use Rattle.freshness.specs.Following.{code_numbers, followed, section_numbers, with_mark, with_marks}
 
 abbrev is_number : ℕ → ℕ → Bool
 is_number k j = j == k

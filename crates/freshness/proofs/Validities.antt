@@ -1,11 +1,10 @@
 -- What a cell that is evaluated has read.
-use Rattle.std.proofs.Common.{◌≡◌, ℕ, ◌==◌, ◌&&◌, Bool, true, false, List, [], ◌∷◌, Option, Some, None, refl, sym, ap, subst, ◌∙◌, eqb-true, eq-eqb}
+use Rattle.std.proofs.Common.{◌≡◌, ℕ, ◌==◌, ◌&&◌, Bool, true, false, List, [], ◌∷◌, Option, Some, None, refl, sym, ap, ◌∙◌, eqb-true, eq-eqb}
 use Rattle.std.specs.Prelude.{if◌then◌else◌, nat_eq}
 use Rattle.std.specs.Option.{option_map}
 use Rattle.std.specs.Cmp.Lexicographic.{pointwise, same_text}
 use Rattle.ex_model.specs.declared.ran.Shown.{Shown}
 use Rattle.notebook.specs.declared.parts.Passed.{Passed}
-use Rattle.notebook.specs.declared.states.Validity.{Validity}
 use Rattle.notebook.specs.declared.states.Validity.TheVariants.{Evaluated, Stale}
 use Rattle.notebook.specs.Flow.{path}
 use Rattle.notebook.specs.Validity.{same_passed, same_path, validity_by}
@@ -13,7 +12,7 @@ use Rattle.freshness.specs.declared.mark.Finished.{Finished}
 use Rattle.freshness.specs.declared.mark.Mark.{Mark}
 use Rattle.freshness.specs.declared.mark.Started.{Started}
 use Rattle.freshness.specs.Marked.{Marked, aborted_by, as_finished, finish_by, finished_by, finished_of, is_aborted, mark_of, path_read}
-use Rattle.freshness.specs.Calls.{IsRemarked, remarked}
+use Rattle.freshness.specs.Calls.{IsRemarked}
 use Rattle.freshness.specs.Validity.{validity_of, validity_on}
 use Rattle.freshness.specs.Laws.{HasReadPath}
 
@@ -70,14 +69,15 @@ read-on m cell (Some present) live e =
 pub has-read : (m : Marked) (cell : ℕ) → validity_of m cell ≡ Some Evaluated → HasReadPath m cell
 has-read m cell e = read-on m cell (path m.book cell) refl e
 
--- an evaluation that has finished counts at once, where the path that was read at its start is still the cell's
-own-mark : (old new : Marked) (cell eval : ℕ) (shown : Shown) (m : Mark) → IsRemarked cell (as_finished eval shown) old new → mark_of old cell ≡ Some m → mark_of new cell ≡ Some (as_finished eval shown m)
-own-mark old new cell eval shown m t there =
-    t.marks cell ∙ (ap (λ b. if b then option_map (as_finished eval shown) (mark_of old cell) else mark_of old cell) (eq-eqb cell cell refl) ∙ ap (option_map (as_finished eval shown)) there)
+-- a cell's own mark once it was changed
+own-mark : (cell : ℕ) (f : Mark → Mark) (old new : Marked) (m : Mark) → IsRemarked cell f old new → mark_of old cell ≡ Some m → mark_of new cell ≡ Some (f m)
+own-mark cell f old new m t there =
+    t.marks cell ∙ (ap (λ b. if b then option_map f (mark_of old cell) else mark_of old cell) (eq-eqb cell cell refl) ∙ ap (option_map f) there)
 
+-- an evaluation that has finished counts at once, where the path that was read at its start is still the cell's
 pub counts-at-once : (old new : Marked) (cell eval : ℕ) (shown : Shown) (m : Mark) (s : Started) → IsRemarked cell (as_finished eval shown) old new → mark_of old cell ≡ Some m → m.started ≡ Some s → path old.book cell ≡ Some s.path → validity_of new cell ≡ Some Evaluated
 counts-at-once old new cell eval shown m s t there started live =
-    let mark : mark_of new cell ≡ Some (finish_by eval shown m (Some s)) = own-mark old new cell eval shown m t there ∙ ap (λ o. Some (finish_by eval shown m o)) started in
+    let mark : mark_of new cell ≡ Some (finish_by eval shown m (Some s)) = own-mark cell (as_finished eval shown) old new m t there ∙ ap (λ o. Some (finish_by eval shown m o)) started in
     let present : path new.book cell ≡ Some s.path = ap (λ n. path n cell) t.book ∙ live in
     ap (option_map (validity_on new cell)) present
     ∙ ap (λ v. Some v)

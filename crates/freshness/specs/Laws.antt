@@ -1,8 +1,7 @@
 -- What follows from the definition of validity.
-use Rattle.std.specs.Prelude.{◌≡◌, ℕ, List, Option, Some}
+use Rattle.std.specs.Prelude.{◌≡◌, ℕ, Some}
 use Rattle.ex_model.specs.declared.ran.Shown.{Shown}
-use Rattle.notebook.specs.declared.parts.Passed.{Passed}
-use Rattle.notebook.specs.declared.states.Validity.TheVariants.{Aborted, Evaluated}
+use Rattle.notebook.specs.declared.states.Validity.TheVariants.{Evaluated}
 use Rattle.notebook.specs.Flow.{path}
 use Rattle.freshness.specs.declared.mark.Finished.{Finished}
 use Rattle.freshness.specs.declared.mark.Mark.{Mark}

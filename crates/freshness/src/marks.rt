@@ -3,7 +3,9 @@ ghost use Rattle.std.specs.Prelude.{◌≡◌, IsSome, Some, [], IfOk, OnOk, OnE
 ghost use Rattle.std.specs.Option.{option_copied, option_map};
 ghost use Rattle.notebook.specs.Flow.{lane_of, path};
 ghost use Rattle.freshness.specs.Marked.{as_aborted, as_finished, as_started, finished_of, is_mark_of, last_started, mark_of, present_path, shown_in};
+ghost use Rattle.notebook.specs.declared.states.Validity.TheVariants.{Aborted};
 ghost use Rattle.freshness.specs.Calls.{IsBroughtTo, IsNew, IsRemarked};
+ghost use Rattle.freshness.specs.Validity.{validity_of};
 
 use crate::following::{follow, keep_abort, keep_finish, keep_start};
 use crate::mark::{Mark, Started};
@@ -82,7 +84,9 @@ impl Marks {
     /// has to be a live setup or code cell. After want of memory all is as it was.
     pub fn started(&mut self, cell: CellId, eval: u64) -> Result<(), AllocError>
         requires { IsSome (lane_of self.old.book cell) }
-        ensures ok { OnOk result (IsRemarked cell (as_started eval (present_path self.old.book cell)) self.old self.new) }
+        ensures ok { OnOk result
+            (IsRemarked cell (as_started eval (present_path self.old.book cell)) self.old self.new) }
+        ensures last { OnOk result (last_started self.new cell ≡ Some eval) }
         ensures err { OnErr result (self.new ≡ self.old) }
     {
         let path = path_in(self.alloc, &self.book, cell)?;
@@ -95,8 +99,9 @@ impl Marks {
     /// evaluation the one that was last started for it. Takes no memory.
     pub fn finished(&mut self, cell: CellId, eval: u64, shown: Shown)
         requires live { IsSome (lane_of self.old.book cell) }
-        requires last { last_started self.old cell ≡ Some eval }
-        ensures { IsRemarked cell (as_finished eval shown) self.old self.new }
+        requires last_started { last_started self.old cell ≡ Some eval }
+        ensures mark { IsRemarked cell (as_finished eval shown) self.old self.new }
+        ensures shows { option_map shown_in (finished_of self.new cell) ≡ Some shown }
     {
         keep_finish(&mut self.marks, cell, eval, shown);
     }
@@ -105,7 +110,8 @@ impl Marks {
     /// cell. Takes no memory.
     pub fn aborted(&mut self, cell: CellId)
         requires { IsSome (lane_of self.old.book cell) }
-        ensures { IsRemarked cell as_aborted self.old self.new }
+        ensures mark { IsRemarked cell as_aborted self.old self.new }
+        ensures aborted { validity_of self.new cell ≡ Some Aborted }
     {
         keep_abort(&mut self.marks, cell);
     }

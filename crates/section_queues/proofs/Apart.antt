@@ -1,7 +1,6 @@
 -- Lists in which nothing stands twice stay so.
-use Rattle.std.proofs.Common.{◌≡◌, ◌||◌, Bool, true, false, cond, List, [], ◌∷◌, ◌++◌, filter, refl, ap, sym, ◌∙◌}
+use Rattle.std.proofs.Common.{◌≡◌, ◌||◌, Bool, true, false, cond, List, [], ◌∷◌, ◌++◌, filter, refl}
 use Rattle.std.specs.List.{list_any}
-use Rattle.notebook.specs.declared.states.Lane.{Lane}
 use Rattle.section_queues.specs.declared.wants.LaneRun.{LaneRun}
 use Rattle.section_queues.specs.Apart.{AreApart}
 use Rattle.section_queues.specs.Wanted.{clashes, is_eval, runs_cell, runs_in}

@@ -1,6 +1,7 @@
 pub mod Apart
 pub mod Earlier
 pub mod Lists
+pub mod Missing
 pub mod Ready
 pub mod Starting
 pub mod Sweeping

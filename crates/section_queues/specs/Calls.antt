@@ -1,5 +1,5 @@
 -- What calls make of the queues, and what they answer.
-use Rattle.std.specs.Prelude.{ℕ, not, Bool, if◌then◌else◌, List, [], ◌∷◌, ◌++◌, Option, filter, find, option_map}
+use Rattle.std.specs.Prelude.{ℕ, not, Bool, if◌then◌else◌, [], ◌∷◌, ◌++◌, Option, filter, find, option_map}
 use Rattle.notebook.specs.declared.parts.Parts.{Parts}
 use Rattle.notebook.specs.declared.states.Lane.{Lane}
 use Rattle.section_queues.specs.declared.wants.Run.{Run}

@@ -1,5 +1,6 @@
 //! The queued cells and the running evaluations.
-ghost use Rattle.std.specs.Prelude.{◌≡◌, ◌++◌, ◌∷◌, [], false, OnOk, OnErr, filter, find, option_map};
+ghost use Rattle.std.specs.Prelude.{◌≡◌, ◌++◌, ◌∷◌, [], false, IfNone, OnOk, OnErr, filter, find, option_map};
+ghost use Rattle.std.specs.Bool.{OnFalse};
 ghost use Rattle.std.specs.List.{list_any};
 ghost use Rattle.section_queues.specs.Apart.{AreApart};
 ghost use Rattle.section_queues.specs.Facts.{is_in, same_number, is_other};
@@ -175,6 +176,7 @@ impl Wants {
     pub fn unask(&mut self, cell: CellId) -> bool
         ensures was { result ≡ is_queued self.old cell }
         ensures rest { self.new ≡ unasked cell self.old }
+        ensures otherwise { OnFalse result (self.new ≡ self.old) }
     {
         let queued = is_among(self.waiting.as_slice(), cell);
         drop_cell(&mut self.waiting, cell);
@@ -186,6 +188,7 @@ impl Wants {
     pub fn take_away(&mut self, cell: CellId) -> Option<u64>
         ensures eval { result ≡ eval_of self.old cell }
         ensures rest { self.new ≡ taken_away cell self.old }
+        ensures otherwise { IfNone result (self.new ≡ self.old) }
     {
         let eval = eval_in(self.runs.as_slice(), cell);
         drop_run(&mut self.runs, cell);
@@ -197,6 +200,7 @@ impl Wants {
     pub fn end(&mut self, eval: u64) -> Option<CellId>
         ensures cell { result ≡ cell_of self.old eval }
         ensures rest { self.new ≡ ended eval self.old }
+        ensures otherwise { IfNone result (self.new ≡ self.old) }
     {
         let cell = cell_in(self.runs.as_slice(), eval);
         drop_eval(&mut self.runs, eval);

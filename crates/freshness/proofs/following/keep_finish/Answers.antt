@@ -1,4 +1,4 @@
-use Rattle.std.proofs.Common.{refl, sym, subst, ap}
+use Rattle.std.proofs.Common.{sym, subst}
 use Rattle.std.specs.Prelude.{slice_set}
 use Rattle.freshness.specs.Calls.{AreRemarked}
 use Rattle.freshness.specs.Marked.{as_finished}

@@ -1,4 +1,4 @@
-use Rattle.std.proofs.Common.{◌≡◌, rules, filter, sym, subst}
+use Rattle.std.proofs.Common.{rules, sym, subst}
 use Rattle.std.proofs.lemmas.Fn.{filter_same}
 use Rattle.section_queues.specs.Apart.{AreApart}
 use Rattle.section_queues.specs.Wanted.{clashes, runs_other}

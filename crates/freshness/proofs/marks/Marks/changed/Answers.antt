@@ -1,4 +1,4 @@
-use Rattle.std.proofs.Common.{◌≡◌, ap, ◌∙◌}
+use Rattle.std.proofs.Common.{ap, ◌∙◌}
 use Rattle.freshness.specs.Marked.{Marked}
 use Rattle.freshness.specs.Following.{followed}
 use Rattle.freshness.proofs.Followed.{made-brought, brought-marked}

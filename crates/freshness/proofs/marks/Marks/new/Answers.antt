@@ -1,5 +1,4 @@
-use Rattle.std.proofs.Common.{◌≡◌, [], ap, ◌∙◌}
-use Rattle.freshness.specs.Calls.{IsNew}
+use Rattle.std.proofs.Common.{[], ap, ◌∙◌}
 use Rattle.freshness.specs.Following.{followed}
 use Rattle.freshness.proofs.Followed.{made-new, new-marked}
 use Rattle.freshness.proofs.marks.Marks.new.Goals as goal
