@@ -31,23 +31,24 @@ use Rattle.session_ops.proofs.Lists.{all-weaker, find-append-none}
 use Rattle.session_ops.proofs.Orderly.{orderly-state}
 use Rattle.session_ops.proofs.Shown.{IsFaithfulWork, IsJobBelow, faithful-work}
 use Rattle.session_core.specs.declared.job.PlainJob.{PlainJob}
-use Rattle.session_core.specs.declared.session.Session.{Session}
+use Rattle.session_core.specs.declared.held.Held.{Held}
 use Rattle.session_core.specs.Jobs.{EndsOver, IsAlong, IsAlongTo, HasAfter, answer_by}
 use Rattle.session_core.specs.Logs.{AreLogs}
-use Rattle.session_core.specs.Session.{IsSession, HasAnswered, HasStarted, IsHandedOut, history_of, state_of, entry_of}
+use Rattle.session_core.specs.Held.{IsHeld, HasAnswered, HasStarted, IsHandedOut, history_of, state_of}
+use Rattle.session_core.specs.Session.{entry_of}
 use Rattle.session_core.proofs.Basing.{has-after}
 use Rattle.session_core.proofs.Owners.{logs-work}
 use Rattle.session_core.proofs.SessionLaws.{answered-session}
 
-notebook-rules : (n0 : Parts) (s : Session) → IsSession n0 s → IsNotebook s.book
+notebook-rules : (n0 : Parts) (s : Held) → IsHeld n0 s → IsNotebook s.book
 notebook-rules n0 s is = subst IsNotebook (sym is.book) (orderly-state n0 (history_of s) is.opening is.legal).book
 
 -- a cell that may start has a lane
-pub has-lane : (n0 : Parts) (s : Session) (lane : Lane) (cell : ℕ) → IsSession n0 s → may_start s.book s.work lane ≡ Some cell → lane_of s.book cell ≡ None → ⊥
+pub has-lane : (n0 : Parts) (s : Held) (lane : Lane) (cell : ℕ) → IsHeld n0 s → may_start s.book s.work lane ≡ Some cell → lane_of s.book cell ≡ None → ⊥
 has-lane n0 s lane cell is may none = let there : lane_of s.book cell ≡ Some lane = starts-lane s.book s.work lane cell (notebook-rules n0 s is) may in cc (none, there)
 
 -- bindings stand after what is before a cell that may start
-pub base-stands : (n0 : Parts) (s : Session) (lane : Lane) (cell : ℕ) (xs : List Cell) (c : Cell) → IsSession n0 s → may_start s.book s.work lane ≡ Some cell → flow s.book cell ≡ Some (xs ++ c ∷ []) → c.id ≡ cell → HasAfter (map passed xs)
+pub base-stands : (n0 : Parts) (s : Held) (lane : Lane) (cell : ℕ) (xs : List Cell) (c : Cell) → IsHeld n0 s → may_start s.book s.work lane ≡ Some cell → flow s.book cell ≡ Some (xs ++ c ∷ []) → c.id ≡ cell → HasAfter (map passed xs)
 base-stands n0 s lane cell xs c is may flows number =
     let rules : IsNotebook s.book = notebook-rules n0 s is in
     let f : IsFaithfulWork (state_of n0 s).work (jobs n0 (history_of s)) = faithful-work n0 (history_of s) is.legal in
@@ -74,7 +75,7 @@ new-job js top eval j below up number =
 some-is : (o : Option ℕ) (c : ℕ) → o ≡ Some c → IsSome o
 some-is o c e = ap is_some e
 
-pub begun-session : (n0 : Parts) (s s' : Session) (by eval : ℕ) (lane : Lane) (w : Work) (job : PlainJob) → IsSession n0 s → may_start s.book s.work lane ≡ Some job.cell → job.eval ≡ s.work.started + 1 → eval ≡ job.eval → IsAlongTo s.book job.cell job.source job.base
+pub begun-session : (n0 : Parts) (s s' : Held) (by eval : ℕ) (lane : Lane) (w : Work) (job : PlainJob) → IsHeld n0 s → may_start s.book s.work lane ≡ Some job.cell → job.eval ≡ s.work.started + 1 → eval ≡ job.eval → IsAlongTo s.book job.cell job.source job.base
     → history_of s' ≡ history_of s ++ entry_of by (Start lane) (Started eval job.cell) ∷ [] → s'.book ≡ s.book → s'.joined.items ≡ s.joined.items → s'.logs.items ≡ s.logs.items → w ≡ begun s.book lane job.eval job.cell s.work → s'.work ≡ swept s.book w → HasStarted n0 by lane s s' job
 begun-session n0 s s' by eval lane w job is may next same along grown eb ej el ew es =
     let st : State = state_of n0 s in
@@ -125,7 +126,7 @@ after-answer : (st : State) (eval : ℕ) (shown : Shown) (o : Option Running) �
 after-answer st eval shown None e = refl
 after-answer st eval shown (Some r) e = ap (λ o. record st { work = stored shown st.work o }) e
 
-pub responded-session : (n0 : Parts) (s s' : Session) (by eval : ℕ) (runs : Bool) (w : Work) (shown : Shown) (ran : Ran) (job : PlainJob) → IsSession n0 s → IsHandedOut n0 s by job → job.eval ≡ eval → MeansInCell (encode_utf8_all job.source) job.base ran → shown ≡ ran.shown → runs ≡ is_some (running_eval s.work eval)
+pub responded-session : (n0 : Parts) (s s' : Held) (by eval : ℕ) (runs : Bool) (w : Work) (shown : Shown) (ran : Ran) (job : PlainJob) → IsHeld n0 s → IsHandedOut n0 s by job → job.eval ≡ eval → MeansInCell (encode_utf8_all job.source) job.base ran → shown ≡ ran.shown → runs ≡ is_some (running_eval s.work eval)
     → history_of s' ≡ history_of s ++ entry_of by (Respond eval shown) (answer_by eval runs) ∷ [] → s'.book ≡ s.book → s'.joined.items ≡ s.joined.items → s'.logs.items ≡ s.logs.items → w ≡ stored ran.shown s.work (running_eval s.work eval) → s'.work ≡ swept s.book w → HasAnswered n0 by (Respond eval ran.shown) s s' (answer_by eval runs)
 responded-session n0 s s' by eval runs w shown ran job is out number means same told grown eb ej el ew es =
     let st : State = state_of n0 s in

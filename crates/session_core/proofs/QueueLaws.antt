@@ -17,35 +17,36 @@ use Rattle.session_ops.specs.declared.entry.Reply.{Reply}
 use Rattle.session_ops.specs.declared.entry.Reply.TheVariants.{Accepted, Refused}
 use Rattle.session_ops.specs.Numbers.{is_in}
 use Rattle.session_ops.specs.State.{State, reply, code_reply, queue_reply, queue_reply_by, cancel_reply, cancel_reply_by}
-use Rattle.session_core.specs.declared.session.Session.{Session}
+use Rattle.session_core.specs.declared.held.Held.{Held}
 use Rattle.session_core.specs.Logs.{AreLogs}
-use Rattle.session_core.specs.Session.{IsSession, HasAnswered, history_of, state_of, entry_of, refused_by}
+use Rattle.session_core.specs.Held.{IsHeld, HasAnswered, history_of, state_of}
+use Rattle.session_core.specs.Session.{entry_of, refused_by}
 use Rattle.session_core.proofs.Owners.{logs-work}
 use Rattle.session_core.proofs.SessionLaws.{answered-session, member-reply, outsider-reply}
 
 -- a stranger, and a cell that doesn't live
-pub stranger-queue : (n0 : Parts) (s : Session) (client cell : ℕ) → IsSession n0 s → is_in client s.joined.items ≡ false → Some NotJoined ≡ refused_by (reply (state_of n0 s) (Client client (Queue cell)))
+pub stranger-queue : (n0 : Parts) (s : Held) (client cell : ℕ) → IsHeld n0 s → is_in client s.joined.items ≡ false → Some NotJoined ≡ refused_by (reply (state_of n0 s) (Client client (Queue cell)))
 stranger-queue n0 s client cell is e = sym (ap refused_by (outsider-reply n0 s client (Queue cell) is e))
 
-pub stranger-cancel : (n0 : Parts) (s : Session) (client cell : ℕ) → IsSession n0 s → is_in client s.joined.items ≡ false → Some NotJoined ≡ refused_by (reply (state_of n0 s) (Client client (Cancel cell)))
+pub stranger-cancel : (n0 : Parts) (s : Held) (client cell : ℕ) → IsHeld n0 s → is_in client s.joined.items ≡ false → Some NotJoined ≡ refused_by (reply (state_of n0 s) (Client client (Cancel cell)))
 stranger-cancel n0 s client cell is e = sym (ap refused_by (outsider-reply n0 s client (Cancel cell) is e))
 
-pub member-queue : (n0 : Parts) (s : Session) (client cell : ℕ) (o : Option Cell) (why : Option Refusal) → IsSession n0 s → is_in client s.joined.items ≡ true → found cell (cells s.book) ≡ o → why ≡ refused_by (queue_reply (state_of n0 s) cell o) → why ≡ refused_by (reply (state_of n0 s) (Client client (Queue cell)))
+pub member-queue : (n0 : Parts) (s : Held) (client cell : ℕ) (o : Option Cell) (why : Option Refusal) → IsHeld n0 s → is_in client s.joined.items ≡ true → found cell (cells s.book) ≡ o → why ≡ refused_by (queue_reply (state_of n0 s) cell o) → why ≡ refused_by (reply (state_of n0 s) (Client client (Queue cell)))
 member-queue n0 s client cell o why is e f h =
     let there : found cell (cells (state_of n0 s).book) ≡ o = subst (λ n. found cell (cells n) ≡ o) is.book f in
     h ∙ sym (ap refused_by (member-reply n0 s client (Queue cell) is e ∙ ap (queue_reply (state_of n0 s) cell) there))
 
-pub member-cancel : (n0 : Parts) (s : Session) (client cell : ℕ) (o : Option Cell) (why : Option Refusal) → IsSession n0 s → is_in client s.joined.items ≡ true → found cell (cells s.book) ≡ o → why ≡ refused_by (cancel_reply (state_of n0 s) cell o) → why ≡ refused_by (reply (state_of n0 s) (Client client (Cancel cell)))
+pub member-cancel : (n0 : Parts) (s : Held) (client cell : ℕ) (o : Option Cell) (why : Option Refusal) → IsHeld n0 s → is_in client s.joined.items ≡ true → found cell (cells s.book) ≡ o → why ≡ refused_by (cancel_reply (state_of n0 s) cell o) → why ≡ refused_by (reply (state_of n0 s) (Client client (Cancel cell)))
 member-cancel n0 s client cell o why is e f h =
     let there : found cell (cells (state_of n0 s).book) ≡ o = subst (λ n. found cell (cells n) ≡ o) is.book f in
     h ∙ sym (ap refused_by (member-reply n0 s client (Cancel cell) is e ∙ ap (cancel_reply (state_of n0 s) cell) there))
 
 -- a live cell of a kind, by the session's own notebook and work
-pub queue-kind : (n0 : Parts) (s : Session) (cell : ℕ) (c : Cell) (why : Option Refusal) → IsSession n0 s → why ≡ refused_by (code_reply c.kind (queue_reply_by (failed_ancestor s.book s.work cell))) → why ≡ refused_by (queue_reply (state_of n0 s) cell (Some c))
+pub queue-kind : (n0 : Parts) (s : Held) (cell : ℕ) (c : Cell) (why : Option Refusal) → IsHeld n0 s → why ≡ refused_by (code_reply c.kind (queue_reply_by (failed_ancestor s.book s.work cell))) → why ≡ refused_by (queue_reply (state_of n0 s) cell (Some c))
 queue-kind n0 s cell c why is h =
     h ∙ (ap (λ n. refused_by (code_reply c.kind (queue_reply_by (failed_ancestor n s.work cell)))) is.book ∙ ap (λ w. refused_by (code_reply c.kind (queue_reply_by (failed_ancestor (state_of n0 s).book w cell)))) is.work)
 
-pub cancel-kind : (n0 : Parts) (s : Session) (cell : ℕ) (c : Cell) (why : Option Refusal) → IsSession n0 s → why ≡ refused_by (code_reply c.kind (cancel_reply_by (is_queued s.work cell || is_running s.work cell))) → why ≡ refused_by (cancel_reply (state_of n0 s) cell (Some c))
+pub cancel-kind : (n0 : Parts) (s : Held) (cell : ℕ) (c : Cell) (why : Option Refusal) → IsHeld n0 s → why ≡ refused_by (code_reply c.kind (cancel_reply_by (is_queued s.work cell || is_running s.work cell))) → why ≡ refused_by (cancel_reply (state_of n0 s) cell (Some c))
 cancel-kind n0 s cell c why is h = h ∙ ap (λ w. refused_by (code_reply c.kind (cancel_reply_by (is_queued w cell || is_running w cell)))) is.work
 
 -- what isn't refused is accepted
@@ -82,7 +83,7 @@ cancel-accepted : (s : State) (client cell : ℕ) (b : Bool) → refused_by (if 
 cancel-accepted s client cell true e = cancel-of s cell (found cell (cells s.book)) e
 cancel-accepted s client cell false e = absurd (cc e)
 
-pub queued-session : (n0 : Parts) (s s' : Session) (by client cell : ℕ) (w : Work) → IsSession n0 s → refused_by (reply (state_of n0 s) (Client client (Queue cell))) ≡ None → history_of s' ≡ history_of s ++ entry_of by (Client client (Queue cell)) Accepted ∷ []
+pub queued-session : (n0 : Parts) (s s' : Held) (by client cell : ℕ) (w : Work) → IsHeld n0 s → refused_by (reply (state_of n0 s) (Client client (Queue cell))) ≡ None → history_of s' ≡ history_of s ++ entry_of by (Client client (Queue cell)) Accepted ∷ []
     → s'.book ≡ s.book → s'.joined.items ≡ s.joined.items → s'.logs.items ≡ s.logs.items → w ≡ asked cell s.work → s'.work ≡ swept s.book w → HasAnswered n0 by (Client client (Queue cell)) s s' Accepted
 queued-session n0 s s' by client cell w is none grown eb ej el ew es =
     let st : State = state_of n0 s in
@@ -94,7 +95,7 @@ queued-session n0 s s' by client cell w is none grown eb ej el ew es =
     (subst (AreLogs (record st { work = asked cell st.work })) (sym el) (logs-work st (asked cell st.work) s.logs.items is.logs))
     (es ∙ (ap (swept s.book) (ew ∙ ap (asked cell) is.work) ∙ ap (λ n. swept n (asked cell st.work)) is.book))
 
-pub cancelled-session : (n0 : Parts) (s s' : Session) (by client cell : ℕ) (w : Work) → IsSession n0 s → refused_by (reply (state_of n0 s) (Client client (Cancel cell))) ≡ None → history_of s' ≡ history_of s ++ entry_of by (Client client (Cancel cell)) Accepted ∷ []
+pub cancelled-session : (n0 : Parts) (s s' : Held) (by client cell : ℕ) (w : Work) → IsHeld n0 s → refused_by (reply (state_of n0 s) (Client client (Cancel cell))) ≡ None → history_of s' ≡ history_of s ++ entry_of by (Client client (Cancel cell)) Accepted ∷ []
     → s'.book ≡ s.book → s'.joined.items ≡ s.joined.items → s'.logs.items ≡ s.logs.items → w ≡ cancelled cell s.work → s'.work ≡ swept s.book w → HasAnswered n0 by (Client client (Cancel cell)) s s' Accepted
 cancelled-session n0 s s' by client cell w is none grown eb ej el ew es =
     let st : State = state_of n0 s in

@@ -20,12 +20,13 @@ use Rattle.session_ops.specs.Snapshot.{live_revision, revision_if, listed_revisi
 use Rattle.session_ops.proofs.Live.{found-number}
 use Rattle.session_ops.proofs.Ready.{waiting-starts}
 use Rattle.session_core.specs.declared.logs.CellLog.{CellLog}
-use Rattle.session_core.specs.declared.session.Session.{Session}
+use Rattle.session_core.specs.declared.held.Held.{Held}
 use Rattle.session_core.specs.Logs.{AreLogs, IsLogIn, log_cell, with_revision}
-use Rattle.session_core.specs.Session.{IsSession, IsWaiting, history_of, state_of, status_of, status_on, validity_of, validity_on, shown_of, shown_if}
+use Rattle.session_core.specs.Held.{IsHeld, history_of, state_of}
+use Rattle.session_core.specs.Session.{IsWaiting, status_of, status_on, validity_of, validity_on, shown_of, shown_if}
 
 -- what a session's notebook and work tell, its state's tell
-pub by-state : (P : Parts → Work → Type 0) (n0 : Parts) (s : Session) → IsSession n0 s → P s.book s.work → P (state_of n0 s).book (state_of n0 s).work
+pub by-state : (P : Parts → Work → Type 0) (n0 : Parts) (s : Held) → IsHeld n0 s → P s.book s.work → P (state_of n0 s).book (state_of n0 s).work
 by-state P n0 s is h = subst (λ n. P n (state_of n0 s).work) is.book (subst (P s.book) is.work h)
 
 -- the lane that is ready, where nothing runs and some cell is queued
@@ -33,7 +34,7 @@ is-ready : (o : Option Lane) → ((lane : Lane) × (o ≡ Some lane)) → IsSome
 is-ready None h = absurd (cc h.1)
 is-ready (Some lane) h = search
 
-pub some-ready : (n0 : Parts) (s : Session) (o : Option Lane) → IsSession n0 s → o ≡ ready_lane s.book s.work → IsWaiting (state_of n0 s) → IsSome o
+pub some-ready : (n0 : Parts) (s : Held) (o : Option Lane) → IsHeld n0 s → o ≡ ready_lane s.book s.work → IsWaiting (state_of n0 s) → IsSome o
 some-ready n0 s o is e waits =
     let st : State = state_of n0 s in
     let same : o ≡ ready_lane st.book st.work = by-state (λ n w. o ≡ ready_lane n w) n0 s is e in

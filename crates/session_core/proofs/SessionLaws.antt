@@ -20,13 +20,14 @@ use Rattle.session_ops.specs.State.{State, ChangesNothing, state, jobs, opening,
 use Rattle.session_ops.proofs.Growing.{state-append, legal-append}
 use Rattle.session_ops.proofs.Sweeps.{swept-same}
 use Rattle.session_ops.proofs.Settled.{hopeful-state, nothing-changed}
-use Rattle.session_core.specs.declared.session.Session.{Session}
+use Rattle.session_core.specs.declared.held.Held.{Held}
 use Rattle.session_core.specs.Logs.{AreLogs, IsLogIn, LineUp, log_cell, once_joined}
-use Rattle.session_core.specs.Session.{IsSession, Holds, HasAnswered, LeavesState, IsAsBefore, history_of, state_of, entry_of}
+use Rattle.session_core.specs.Held.{IsHeld, Holds, HasAnswered, LeavesState, IsAsBefore, history_of, state_of}
+use Rattle.session_core.specs.Session.{entry_of}
 use Rattle.session_core.proofs.Owners.{logs-work, logs-kept, opening-logs}
 
 -- a session that was asked one thing more
-pub answered-session : (n0 : Parts) (s s' : Session) (by : ℕ) (call : Call) (answer : Reply) → IsSession n0 s → MayCall (state_of n0 s) (jobs n0 (history_of s)) by call → answer ≡ reply (state_of n0 s) call
+pub answered-session : (n0 : Parts) (s s' : Held) (by : ℕ) (call : Call) (answer : Reply) → IsHeld n0 s → MayCall (state_of n0 s) (jobs n0 (history_of s)) by call → answer ≡ reply (state_of n0 s) call
     → history_of s' ≡ history_of s ++ entry_of by call answer ∷ [] → s'.book ≡ (after_call (state_of n0 s) call answer).book → s'.joined.items ≡ (after_call (state_of n0 s) call answer).joined
     → AreLogs (after_call (state_of n0 s) call answer) s'.logs.items → s'.work ≡ swept (after_call (state_of n0 s) call answer).book (after_call (state_of n0 s) call answer).work → HasAnswered n0 by call s s' answer
 answered-session n0 s s' by call answer is may right grown eb ej al ew =
@@ -48,22 +49,22 @@ answered-session n0 s s' by call answer is may right grown eb ej al ew =
     }
 
 -- an answer that changes nothing leaves the state
-pub same-state : (n0 : Parts) (s s' : Session) (by : ℕ) (call : Call) (answer : Reply) → HasAnswered n0 by call s s' answer → ChangesNothing call answer → LeavesState n0 s s'
+pub same-state : (n0 : Parts) (s s' : Held) (by : ℕ) (call : Call) (answer : Reply) → HasAnswered n0 by call s s' answer → ChangesNothing call answer → LeavesState n0 s s'
 same-state n0 s s' by call answer h k = ap (state n0) h.history ∙ (state-append n0 (history_of s) (entry_of by call answer) ∙ nothing-changed n0 (history_of s) by call answer k)
 
-pub same-state-ok : {E : Type 0} (n0 : Parts) (s s' : Session) (by : ℕ) (call : Call) (r : Result Reply E) → IfOk r (HasAnswered n0 by call s s') → IfOk r (λ answer. ChangesNothing call answer → LeavesState n0 s s')
+pub same-state-ok : {E : Type 0} (n0 : Parts) (s s' : Held) (by : ℕ) (call : Call) (r : Result Reply E) → IfOk r (HasAnswered n0 by call s s') → IfOk r (λ answer. ChangesNothing call answer → LeavesState n0 s s')
 same-state-ok n0 s s' by call (Ok answer) h = same-state n0 s s' by call answer h
 same-state-ok n0 s s' by call (Err e) h = tt
 
 -- the same, by what the session holds
-pub answered-holding : (n0 : Parts) (s s' : Session) (by : ℕ) (call : Call) (answer : Reply) → IsSession n0 s → MayCall (state_of n0 s) (jobs n0 (history_of s)) by call → answer ≡ reply (state_of n0 s) call
+pub answered-holding : (n0 : Parts) (s s' : Held) (by : ℕ) (call : Call) (answer : Reply) → IsHeld n0 s → MayCall (state_of n0 s) (jobs n0 (history_of s)) by call → answer ≡ reply (state_of n0 s) call
     → history_of s' ≡ history_of s ++ entry_of by call answer ∷ [] → Holds (record (after_call (state_of n0 s) call answer) { work = swept (after_call (state_of n0 s) call answer).book (after_call (state_of n0 s) call answer).work }) s' → HasAnswered n0 by call s s' answer
 answered-holding n0 s s' by call answer is may right grown h =
     let t : State = after_call (state_of n0 s) call answer in
     answered-session n0 s s' by call answer is may right grown h.book h.joined (logs-work (record t { work = swept t.book t.work }) t.work s'.logs.items h.logs) h.work
 
 -- a session to which nothing was appended
-pub as-before : (n0 : Parts) (s s' : Session) → IsSession n0 s → history_of s' ≡ history_of s → s'.book ≡ s.book → s'.joined.items ≡ s.joined.items → AreLogs (state_of n0 s) s'.logs.items → s'.work ≡ s.work → IsAsBefore n0 s s'
+pub as-before : (n0 : Parts) (s s' : Held) → IsHeld n0 s → history_of s' ≡ history_of s → s'.book ≡ s.book → s'.joined.items ≡ s.joined.items → AreLogs (state_of n0 s) s'.logs.items → s'.work ≡ s.work → IsAsBefore n0 s s'
 as-before n0 s s' is eh eb ej al ew =
     let st : state_of n0 s ≡ state_of n0 s' = ap (state n0) (sym eh) in
     record {
@@ -79,11 +80,11 @@ as-before n0 s s' is eh eb ej al ew =
           };
     }
 
-pub before-holding : (n0 : Parts) (s s' : Session) → IsSession n0 s → history_of s' ≡ history_of s → Holds (state_of n0 s) s' → IsAsBefore n0 s s'
+pub before-holding : (n0 : Parts) (s s' : Held) → IsHeld n0 s → history_of s' ≡ history_of s → Holds (state_of n0 s) s' → IsAsBefore n0 s s'
 before-holding n0 s s' is eh h = as-before n0 s s' is eh (h.book ∙ sym is.book) (h.joined ∙ sym is.joined) h.logs (h.work ∙ sym is.work)
 
 -- the same, where at most the history's room changed
-pub untouched : (n0 : Parts) (s s' : Session) → IsSession n0 s → history_of s' ≡ history_of s → s'.book ≡ s.book → s'.joined.items ≡ s.joined.items → s'.logs.items ≡ s.logs.items → s'.work ≡ s.work → IsAsBefore n0 s s'
+pub untouched : (n0 : Parts) (s s' : Held) → IsHeld n0 s → history_of s' ≡ history_of s → s'.book ≡ s.book → s'.joined.items ≡ s.joined.items → s'.logs.items ≡ s.logs.items → s'.work ≡ s.work → IsAsBefore n0 s s'
 untouched n0 s s' is eh eb ej el ew = as-before n0 s s' is eh eb ej (subst (AreLogs (state_of n0 s)) (sym el) is.logs) ew
 
 -- a failed call leaves what is so anyway
@@ -92,10 +93,10 @@ on-err (Ok x) P p = tt
 on-err (Err e) P p = p
 
 -- what is asked of a session that is as before is asked of the one before
-pub before-trans : (n0 : Parts) (s m s' : Session) → IsAsBefore n0 s m → IsAsBefore n0 m s' → IsAsBefore n0 s s'
+pub before-trans : (n0 : Parts) (s m s' : Held) → IsAsBefore n0 s m → IsAsBefore n0 m s' → IsAsBefore n0 s s'
 before-trans n0 s m s' a b = record { history = b.history ∙ a.history; session = b.session }
 
-pub answered-from : (n0 : Parts) (s m s' : Session) (by : ℕ) (call : Call) (answer : Reply) → IsAsBefore n0 s m → HasAnswered n0 by call m s' answer → HasAnswered n0 by call s s' answer
+pub answered-from : (n0 : Parts) (s m s' : Held) (by : ℕ) (call : Call) (answer : Reply) → IsAsBefore n0 s m → HasAnswered n0 by call m s' answer → HasAnswered n0 by call s s' answer
 answered-from n0 s m s' by call answer a h = record {
   right = h.right ∙ ap (λ k. reply (state n0 k) call) a.history;
   history = h.history ∙ ap (λ k. k ++ entry_of by call answer ∷ []) a.history;
@@ -103,7 +104,7 @@ answered-from n0 s m s' by call answer a h = record {
 }
 
 -- a call that is refused
-pub refused-session : (n0 : Parts) (s s' : Session) (by client : ℕ) (op : Op) (why : Refusal) → IsSession n0 s → reply (state_of n0 s) (Client client op) ≡ Refused why → history_of s' ≡ history_of s ++ entry_of by (Client client op) (Refused why) ∷ []
+pub refused-session : (n0 : Parts) (s s' : Held) (by client : ℕ) (op : Op) (why : Refusal) → IsHeld n0 s → reply (state_of n0 s) (Client client op) ≡ Refused why → history_of s' ≡ history_of s ++ entry_of by (Client client op) (Refused why) ∷ []
     → s'.book ≡ s.book → s'.joined.items ≡ s.joined.items → s'.logs.items ≡ s.logs.items → s'.work ≡ s.work → HasAnswered n0 by (Client client op) s s' (Refused why)
 refused-session n0 s s' by client op why is r grown eb ej el ew =
     answered-session n0 s s' by (Client client op) (Refused why) is tt (sym r) grown
@@ -113,18 +114,18 @@ refused-session n0 s s' by client op why is r grown eb ej el ew =
     (ew ∙ (is.work ∙ sym (swept-same (state_of n0 s).book (state_of n0 s).work (hopeful-state n0 (history_of s)))))
 
 -- the clients that have joined, in the session and in the state
-pub member-of : (n0 : Parts) (s : Session) (client : ℕ) (b : Bool) → IsSession n0 s → is_in client s.joined.items ≡ b → is_in client (state_of n0 s).joined ≡ b
+pub member-of : (n0 : Parts) (s : Held) (client : ℕ) (b : Bool) → IsHeld n0 s → is_in client s.joined.items ≡ b → is_in client (state_of n0 s).joined ≡ b
 member-of n0 s client b is e = subst (λ js. is_in client js ≡ b) is.joined e
 
 -- what a client that has joined, and one that hasn't, is answered
-pub member-reply : (n0 : Parts) (s : Session) (client : ℕ) (op : Op) → IsSession n0 s → is_in client s.joined.items ≡ true → reply (state_of n0 s) (Client client op) ≡ joined_reply (state_of n0 s) op
+pub member-reply : (n0 : Parts) (s : Held) (client : ℕ) (op : Op) → IsHeld n0 s → is_in client s.joined.items ≡ true → reply (state_of n0 s) (Client client op) ≡ joined_reply (state_of n0 s) op
 member-reply n0 s client op is e = ap (λ b. if b then joined_reply (state_of n0 s) op else stranger_reply op) (member-of n0 s client true is e)
 
-pub outsider-reply : (n0 : Parts) (s : Session) (client : ℕ) (op : Op) → IsSession n0 s → is_in client s.joined.items ≡ false → reply (state_of n0 s) (Client client op) ≡ stranger_reply op
+pub outsider-reply : (n0 : Parts) (s : Held) (client : ℕ) (op : Op) → IsHeld n0 s → is_in client s.joined.items ≡ false → reply (state_of n0 s) (Client client op) ≡ stranger_reply op
 outsider-reply n0 s client op is e = ap (λ b. if b then joined_reply (state_of n0 s) op else stranger_reply op) (member-of n0 s client false is e)
 
 -- joining and leaving
-pub joined-session : (n0 : Parts) (s s' : Session) (by client : ℕ) → IsSession n0 s → is_in client s.joined.items ≡ false → history_of s' ≡ history_of s ++ entry_of by (Client client Join) Accepted ∷ []
+pub joined-session : (n0 : Parts) (s s' : Held) (by client : ℕ) → IsHeld n0 s → is_in client s.joined.items ≡ false → history_of s' ≡ history_of s ++ entry_of by (Client client Join) Accepted ∷ []
     → s'.book ≡ s.book → s'.joined.items ≡ s.joined.items ++ client ∷ [] → map log_cell s'.logs.items ≡ map log_cell s.logs.items → AllByRecursion (IsLogIn (once_joined client (state_of n0 s))) s'.logs.items → s'.work ≡ s.work → HasAnswered n0 by (Client client Join) s s' Accepted
 joined-session n0 s s' by client is e grown eb ej ec al ew =
     answered-session n0 s s' by (Client client Join) Accepted is tt
@@ -135,7 +136,7 @@ joined-session n0 s s' by client is e grown eb ej ec al ew =
     (logs-kept (state_of n0 s) (once_joined client (state_of n0 s)) s.logs.items s'.logs.items is.logs refl ec al)
     (ew ∙ (is.work ∙ sym (swept-same (state_of n0 s).book (state_of n0 s).work (hopeful-state n0 (history_of s)))))
 
-pub left-session : (n0 : Parts) (s s' : Session) (by client : ℕ) → IsSession n0 s → is_in client s.joined.items ≡ true → history_of s' ≡ history_of s ++ entry_of by (Client client Leave) Accepted ∷ []
+pub left-session : (n0 : Parts) (s s' : Held) (by client : ℕ) → IsHeld n0 s → is_in client s.joined.items ≡ true → history_of s' ≡ history_of s ++ entry_of by (Client client Leave) Accepted ∷ []
     → s'.book ≡ s.book → s'.joined.items ≡ filter (is_other client) s.joined.items → map log_cell s'.logs.items ≡ map log_cell s.logs.items → AllByRecursion (IsLogIn (once_left client (state_of n0 s))) s'.logs.items → s'.work ≡ s.work → HasAnswered n0 by (Client client Leave) s s' Accepted
 left-session n0 s s' by client is e grown eb ej ec al ew =
     answered-session n0 s s' by (Client client Leave) Accepted is tt
@@ -147,7 +148,7 @@ left-session n0 s s' by client is e grown eb ej ec al ew =
     (ew ∙ (is.work ∙ sym (swept-same (state_of n0 s).book (state_of n0 s).work (hopeful-state n0 (history_of s)))))
 
 -- the opening
-pub opening-session : (n0 : Parts) (s : Session) → IsNotebook n0 → s.book ≡ n0 → s.joined.items ≡ [] → LineUp (opening n0) (cells n0) s.logs.items → s.work ≡ no_work → history_of s ≡ [] → IsSession n0 s
+pub opening-session : (n0 : Parts) (s : Held) → IsNotebook n0 → s.book ≡ n0 → s.joined.items ≡ [] → LineUp (opening n0) (cells n0) s.logs.items → s.work ≡ no_work → history_of s ≡ [] → IsHeld n0 s
 opening-session n0 s is eb ej al ew eh =
     let st : opening n0 ≡ state_of n0 s = ap (state n0) (sym eh) in
     record {
@@ -160,13 +161,13 @@ opening-session n0 s is eb ej al ew eh =
     }
 
 -- answers that come after nothing was appended
-pub before-err : {A E : Type 0} (n0 : Parts) (s m s' : Session) (r : Result A E) → IsAsBefore n0 s m → OnErr r (IsAsBefore n0 m s') → OnErr r (IsAsBefore n0 s s')
+pub before-err : {A E : Type 0} (n0 : Parts) (s m s' : Held) (r : Result A E) → IsAsBefore n0 s m → OnErr r (IsAsBefore n0 m s') → OnErr r (IsAsBefore n0 s s')
 before-err n0 s m s' (Ok x) a h = tt
 before-err n0 s m s' (Err e) a h = before-trans n0 s m s' a h
 
-pub answered-ok : {E : Type 0} (n0 : Parts) (s m s' : Session) (by : ℕ) (call : Call) (r : Result Reply E) → IsAsBefore n0 s m → IfOk r (HasAnswered n0 by call m s') → IfOk r (HasAnswered n0 by call s s')
+pub answered-ok : {E : Type 0} (n0 : Parts) (s m s' : Held) (by : ℕ) (call : Call) (r : Result Reply E) → IsAsBefore n0 s m → IfOk r (HasAnswered n0 by call m s') → IfOk r (HasAnswered n0 by call s s')
 answered-ok n0 s m s' by call (Ok x) a h = answered-from n0 s m s' by call x a h
 answered-ok n0 s m s' by call (Err e) a h = tt
 
-pub refused-err : {A E : Type 0} (n0 : Parts) (s m s' : Session) (r : Result A E) → IsAsBefore n0 s m → (IsSession n0 m → OnErr r (IsAsBefore n0 m s')) → OnErr r (IsAsBefore n0 s s')
+pub refused-err : {A E : Type 0} (n0 : Parts) (s m s' : Held) (r : Result A E) → IsAsBefore n0 s m → (IsHeld n0 m → OnErr r (IsAsBefore n0 m s')) → OnErr r (IsAsBefore n0 s s')
 refused-err n0 s m s' r a h = before-err n0 s m s' r a (h a.session)

@@ -35,20 +35,21 @@ use Rattle.revisions.specs.Answer.{IsCause}
 use Rattle.revisions.specs.Log.{IsLog, HasTaken}
 use Rattle.revisions.specs.Source.{taking}
 use Rattle.session_core.specs.declared.logs.CellLog.{CellLog}
-use Rattle.session_core.specs.declared.session.Session.{Session}
+use Rattle.session_core.specs.declared.held.Held.{Held}
 use Rattle.session_core.specs.Logs.{AreLogs, IsLogIn, place_in}
 use Rattle.session_core.specs.Stands.{StandsFor, IsMovedIn, as_reply, source_in}
-use Rattle.session_core.specs.Session.{IsSession, HasAnswered, IsAsBefore, history_of, state_of, entry_of, told}
+use Rattle.session_core.specs.Held.{IsHeld, HasAnswered, IsAsBefore, history_of, state_of}
+use Rattle.session_core.specs.Session.{entry_of, told}
 use Rattle.session_core.proofs.Others.{taken-beside, reported-beside}
 use Rattle.session_core.proofs.Owners.{StaysElsewhere, replaced}
 use Rattle.session_core.proofs.SessionLaws.{answered-session, member-reply, answered-ok}
 use Rattle.session_core.proofs.Standing.{answers, stands-taken}
 
 -- what a joined client's delta is answered, by the cell that is found
-pub delta-answer : (n0 : Parts) (s : Session) (client cell base : ℕ) (d : List Step) (o : Option Cell) → IsSession n0 s → is_in client s.joined.items ≡ true → found cell (cells (state_of n0 s).book) ≡ o → reply (state_of n0 s) (Client client (Delta cell base d)) ≡ delta_reply (state_of n0 s) cell base d o
+pub delta-answer : (n0 : Parts) (s : Held) (client cell base : ℕ) (d : List Step) (o : Option Cell) → IsHeld n0 s → is_in client s.joined.items ≡ true → found cell (cells (state_of n0 s).book) ≡ o → reply (state_of n0 s) (Client client (Delta cell base d)) ≡ delta_reply (state_of n0 s) cell base d o
 delta-answer n0 s client cell base d o is e f = member-reply n0 s client (Delta cell base d) is e ∙ ap (delta_reply (state_of n0 s) cell base d) f
 
-pub report-answer : (n0 : Parts) (s : Session) (client cell rev : ℕ) (o : Option Cell) → IsSession n0 s → is_in client s.joined.items ≡ true → found cell (cells (state_of n0 s).book) ≡ o → reply (state_of n0 s) (Client client (Report cell rev)) ≡ report_reply (state_of n0 s) cell rev o
+pub report-answer : (n0 : Parts) (s : Held) (client cell rev : ℕ) (o : Option Cell) → IsHeld n0 s → is_in client s.joined.items ≡ true → found cell (cells (state_of n0 s).book) ≡ o → reply (state_of n0 s) (Client client (Report cell rev)) ≡ report_reply (state_of n0 s) cell rev o
 report-answer n0 s client cell rev o is e f = member-reply n0 s client (Report cell rev) is e ∙ ap (report_reply (state_of n0 s) cell rev) f
 
 -- a cause that a client is told is the session's refusal
@@ -94,7 +95,7 @@ own-log s t cell x c l eb f named h =
       stands = subst (λ n. StandsFor t n (moved_source cell x c) l.log) (sym named) (subst (λ text. StandsFor t cell text l.log) source h);
     }
 
-pub taken-session : (n0 : Parts) (s s' : Session) (by client cell base rev at : ℕ) (d kept : List Step) (c : Cell) (m : Move) (a : Taken) (old : SourceLog) (l' : CellLog) → IsSession n0 s → is_in client s.joined.items ≡ true → found cell (cells s.book) ≡ Some c
+pub taken-session : (n0 : Parts) (s s' : Held) (by client cell base rev at : ℕ) (d kept : List Step) (c : Cell) (m : Move) (a : Taken) (old : SourceLog) (l' : CellLog) → IsHeld n0 s → is_in client s.joined.items ≡ true → found cell (cells s.book) ≡ Some c
     → IsMovedIn (state_of n0 s) cell c base d m → StandsFor (state_of n0 s) cell c.source old → HasTaken (source_in (state_of n0 s) cell c.source) client m.delta a l'.log → rev ≡ revision (state_of n0 s) cell + 1 → kept ≡ m.delta → Some at ≡ place_in cell s.logs.items → l'.cell ≡ cell
     → history_of s' ≡ history_of s ++ entry_of by (Client client (Delta cell base d)) (Applied rev kept) ∷ [] → s'.book ≡ with_source cell m.text s.book → s'.joined.items ≡ s.joined.items → s'.logs.items ≡ set s.logs.items at l' → s'.work ≡ swept s'.book s.work
     → HasAnswered n0 by (Client client (Delta cell base d)) s s' (Applied rev a.delta)
@@ -129,7 +130,7 @@ stays-report s client cell rev = record {
       record { owner = h.owner; is_found = h.is_found; stands = reported-beside s (after_call s (Client client (Report cell rev)) Accepted) l.cell cell client rev h.owner.source l.log h.stands other refl refl refl refl };
 }
 
-pub reported-session : (n0 : Parts) (s s' : Session) (by client cell rev at : ℕ) (c : Cell) (l' : CellLog) → IsSession n0 s → is_in client s.joined.items ≡ true → found cell (cells (state_of n0 s).book) ≡ Some c → rev ≤ revision (state_of n0 s) cell
+pub reported-session : (n0 : Parts) (s s' : Held) (by client cell rev at : ℕ) (c : Cell) (l' : CellLog) → IsHeld n0 s → is_in client s.joined.items ≡ true → found cell (cells (state_of n0 s).book) ≡ Some c → rev ≤ revision (state_of n0 s) cell
     → StandsFor (after_call (state_of n0 s) (Client client (Report cell rev)) Accepted) cell c.source l'.log → Some at ≡ place_in cell s.logs.items → l'.cell ≡ cell
     → history_of s' ≡ history_of s ++ entry_of by (Client client (Report cell rev)) Accepted ∷ [] → s'.book ≡ s.book → s'.joined.items ≡ s.joined.items → s'.logs.items ≡ set s.logs.items at l' → s'.work ≡ s.work
     → HasAnswered n0 by (Client client (Report cell rev)) s s' Accepted
@@ -147,8 +148,8 @@ reported-session n0 s s' by client cell rev at c l' is member there low stands p
     (ew ∙ (is.work ∙ sym (swept-same st.book st.work (hopeful-state n0 (history_of s)))))
 
 -- a report that isn't noted, after all is as it was
-pub report-refused : (n0 : Parts) (s m s' : Session) (by client cell rev : ℕ) (c : Cell) (why : Refusal) {E : Type 0} (r : Result Reply E) → IsSession n0 s → is_in client s.joined.items ≡ true → found cell (cells (state_of n0 s).book) ≡ Some c → report_reply (state_of n0 s) cell rev (Some c) ≡ Refused why
-    → IsAsBefore n0 s m → (IsSession n0 m → reply (state_of n0 m) (Client client (Report cell rev)) ≡ Refused why → IfOk r (HasAnswered n0 by (Client client (Report cell rev)) m s')) → IfOk r (HasAnswered n0 by (Client client (Report cell rev)) s s')
+pub report-refused : (n0 : Parts) (s m s' : Held) (by client cell rev : ℕ) (c : Cell) (why : Refusal) {E : Type 0} (r : Result Reply E) → IsHeld n0 s → is_in client s.joined.items ≡ true → found cell (cells (state_of n0 s).book) ≡ Some c → report_reply (state_of n0 s) cell rev (Some c) ≡ Refused why
+    → IsAsBefore n0 s m → (IsHeld n0 m → reply (state_of n0 m) (Client client (Report cell rev)) ≡ Refused why → IfOk r (HasAnswered n0 by (Client client (Report cell rev)) m s')) → IfOk r (HasAnswered n0 by (Client client (Report cell rev)) s s')
 report-refused n0 s m s' by client cell rev c why r is member there told a told_so =
     let same : reply (state_of n0 m) (Client client (Report cell rev)) ≡ Refused why = ap (λ k. reply (state n0 k) (Client client (Report cell rev))) a.history ∙ (report-answer n0 s client cell rev (Some c) is member there ∙ told) in
     answered-ok n0 s m s' by (Client client (Report cell rev)) r a (told_so a.session same)

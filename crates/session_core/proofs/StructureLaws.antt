@@ -39,9 +39,10 @@ use Rattle.session_ops.proofs.Settled.{hopeful-state}
 use Rattle.session_ops.proofs.Structures.{HasChanged, made-new, stays-live}
 use Rattle.session_ops.proofs.Sweeps.{swept-same}
 use Rattle.session_core.specs.declared.logs.CellLog.{CellLog}
-use Rattle.session_core.specs.declared.session.Session.{Session}
+use Rattle.session_core.specs.declared.held.Held.{Held}
 use Rattle.session_core.specs.Logs.{AreLogs, IsLogIn, IsFreshIn, IsNewLog, log_cell, log_lives}
-use Rattle.session_core.specs.Session.{IsSession, Holds, HasAnswered, HasMade, HasNotMade, IsAsBefore, first_of, new_source, takes_away, told_change, history_of, state_of, entry_of}
+use Rattle.session_core.specs.Held.{IsHeld, Holds, HasAnswered, HasMade, HasNotMade, IsAsBefore, history_of, state_of}
+use Rattle.session_core.specs.Session.{first_of, new_source, takes_away, told_change, entry_of}
 use Rattle.session_core.specs.Stands.{StandsFor}
 use Rattle.session_core.proofs.Others.{stands-same}
 use Rattle.session_core.proofs.Owners.{found-some, logs-work}
@@ -185,7 +186,7 @@ plain-logs s asked n' what ls ls' o e plain h left =
       live = λ cell l. in-living n' cell ls l (h.live cell (unmade-lived s.book n' asked cell ch (ap (found cell) made) l));
     })
 
-pub plain-made : (s : State) (asked : Change) (made : Changed) (x x' : Session) → Holds s x → IsOrderly s → change x.book asked ≡ Makes x'.book made → new_source x.book asked ≡ None
+pub plain-made : (s : State) (asked : Change) (made : Changed) (x x' : Held) → Holds s x → IsOrderly s → change x.book asked ≡ Makes x'.book made → new_source x.book asked ≡ None
     → x'.joined.items ≡ x.joined.items → x'.logs.items ≡ (if takes_away asked then filter (log_lives x'.book) x.logs.items else x.logs.items) → x'.work ≡ housed x'.book x.work → HasMade s asked x' made
 plain-made s asked made x x' h o e plain ej el ew =
     let e' : change s.book asked ≡ Makes x'.book made = subst (λ n. change n asked ≡ Makes x'.book made) h.book e in
@@ -314,7 +315,7 @@ cell-logs s asked n' what source ls l o e one h new =
           refl;
     }
 
-pub cell-made : (s : State) (asked : Change) (made : Changed) (source joined : List ℕ) (cell : ℕ) (x x' : Session) (l : CellLog) → Holds s x → IsOrderly s → change x.book asked ≡ Makes x'.book made → new_source x.book asked ≡ Some source → joined ≡ x.joined.items → cell ≡ x.book.next_cell
+pub cell-made : (s : State) (asked : Change) (made : Changed) (source joined : List ℕ) (cell : ℕ) (x x' : Held) (l : CellLog) → Holds s x → IsOrderly s → change x.book asked ≡ Makes x'.book made → new_source x.book asked ≡ Some source → joined ≡ x.joined.items → cell ≡ x.book.next_cell
     → ((t : State) → IsFreshIn t joined cell source → IsNewLog t cell source l) → x'.joined.items ≡ x.joined.items → x'.logs.items ≡ x.logs.items ++ l ∷ [] → x'.work ≡ housed x'.book x.work → HasMade s asked x' made
 cell-made s asked made source joined cell x x' l h o e begins ejs ec new ej el ew =
     let t : State = once_made s (Makes x'.book made) in
@@ -333,13 +334,13 @@ cell-made s asked made source joined cell x x' l h o e begins ejs ec new ej el e
     )
 
 -- a change that isn't made, and after which all is as it was
-pub unmade : (s : State) (asked : Change) (why : NoteError) (x x' : Session) → Holds s x → Refuses x.book asked why → x'.book ≡ x.book → x'.joined.items ≡ x.joined.items → x'.logs.items ≡ x.logs.items → x'.work ≡ x.work → HasNotMade s asked x' why
+pub unmade : (s : State) (asked : Change) (why : NoteError) (x x' : Held) → Holds s x → Refuses x.book asked why → x'.book ≡ x.book → x'.joined.items ≡ x.joined.items → x'.logs.items ≡ x.logs.items → x'.work ≡ x.work → HasNotMade s asked x' why
 unmade s asked why x x' h e eb ej el ew = (
   subst (λ n. Refuses n asked why) h.book e,
   record { book = eb ∙ h.book; joined = ej ∙ h.joined; logs = subst (AreLogs s) (sym el) h.logs; work = ew ∙ h.work },
 )
 
-pub short : (s : State) (asked : Change) (why : NoteError) (x x' : Session) → Holds s x → why ≡ note.OutOfMemory → x'.book ≡ x.book → x'.joined.items ≡ x.joined.items → x'.logs.items ≡ x.logs.items → x'.work ≡ x.work → HasNotMade s asked x' why
+pub short : (s : State) (asked : Change) (why : NoteError) (x x' : Held) → Holds s x → why ≡ note.OutOfMemory → x'.book ≡ x.book → x'.joined.items ≡ x.joined.items → x'.logs.items ≡ x.logs.items → x'.work ≡ x.work → HasNotMade s asked x' why
 short s asked why x x' h e eb ej el ew = unmade s asked why x x' h (subst (Refuses x.book asked) (sym e) tt) eb ej el ew
 
 -- an operation that asks for a change: what it is answered, and what is after it
@@ -370,14 +371,14 @@ asks : (op : Op) (asked : Change) → change_of op ≡ Some asked → IsSome (ch
 asks op asked e = subst (λ o. is_some o ≡ true) (sym e) refl
 
 -- a stranger asks for a change
-pub stranger-change : (n0 : Parts) (s : Session) (client : ℕ) (op : Op) (asked : Change) → IsSession n0 s → is_in client s.joined.items ≡ false → change_of op ≡ Some asked → reply (state_of n0 s) (Client client op) ≡ Refused NotJoined
+pub stranger-change : (n0 : Parts) (s : Held) (client : ℕ) (op : Op) (asked : Change) → IsHeld n0 s → is_in client s.joined.items ≡ false → change_of op ≡ Some asked → reply (state_of n0 s) (Client client op) ≡ Refused NotJoined
 stranger-change n0 s client op asked is e a = outsider-reply n0 s client op is e ∙ structure-stranger op (asks op asked a)
 
-member-change : (n0 : Parts) (s : Session) (client : ℕ) (op : Op) (asked : Change) → IsSession n0 s → is_in client s.joined.items ≡ true → change_of op ≡ Some asked → reply (state_of n0 s) (Client client op) ≡ attempt_reply (change (state_of n0 s).book asked)
+member-change : (n0 : Parts) (s : Held) (client : ℕ) (op : Op) (asked : Change) → IsHeld n0 s → is_in client s.joined.items ≡ true → change_of op ≡ Some asked → reply (state_of n0 s) (Client client op) ≡ attempt_reply (change (state_of n0 s).book asked)
 member-change n0 s client op asked is e a = member-reply n0 s client op is e ∙ (structure-reply (state_of n0 s) op (asks op asked a) ∙ ap (change_reply (state_of n0 s)) a)
 
 -- the session once a change was made, and the evaluations were swept
-pub changed-session : (n0 : Parts) (s m s' : Session) (by client : ℕ) (op : Op) (asked : Change) (made : Changed) → IsSession n0 s → is_in client s.joined.items ≡ true → change_of op ≡ Some asked → HasMade (state_of n0 s) asked m made
+pub changed-session : (n0 : Parts) (s m s' : Held) (by client : ℕ) (op : Op) (asked : Change) (made : Changed) → IsHeld n0 s → is_in client s.joined.items ≡ true → change_of op ≡ Some asked → HasMade (state_of n0 s) asked m made
     → history_of s' ≡ history_of s ++ entry_of by (Client client op) (made_reply made) ∷ [] → s'.book ≡ m.book → s'.joined.items ≡ m.joined.items → s'.logs.items ≡ m.logs.items → s'.work ≡ swept m.book m.work → HasAnswered n0 by (Client client op) s s' (made_reply made)
 changed-session n0 s m s' by client op asked made is member a done grown eb ej el ew =
     let st : State = state_of n0 s in
@@ -404,7 +405,7 @@ told-cause n asked note.TooManyCells why h k = ap attempt_reply h ∙ ap Refused
 told-cause n asked note.TooManySections why h k = ap attempt_reply h ∙ ap Refused (sym (cc k))
 told-cause n asked note.OutOfMemory why h k = absurd (cc k)
 
-pub unchanged-session : (n0 : Parts) (s m s' : Session) (by client : ℕ) (op : Op) (asked : Change) (fault : NoteError) (why : Refusal) → IsSession n0 s → is_in client s.joined.items ≡ true → change_of op ≡ Some asked → HasNotMade (state_of n0 s) asked m fault → Some why ≡ told_change fault
+pub unchanged-session : (n0 : Parts) (s m s' : Held) (by client : ℕ) (op : Op) (asked : Change) (fault : NoteError) (why : Refusal) → IsHeld n0 s → is_in client s.joined.items ≡ true → change_of op ≡ Some asked → HasNotMade (state_of n0 s) asked m fault → Some why ≡ told_change fault
     → history_of s' ≡ history_of s ++ entry_of by (Client client op) (Refused why) ∷ [] → s'.book ≡ m.book → s'.joined.items ≡ m.joined.items → s'.logs.items ≡ m.logs.items → s'.work ≡ m.work → HasAnswered n0 by (Client client op) s s' (Refused why)
 unchanged-session n0 s m s' by client op asked fault why is member a done told grown eb ej el ew =
     let st : State = state_of n0 s in
@@ -420,14 +421,14 @@ unchanged-session n0 s m s' by client op asked fault why is member a done told g
     })
 
 -- nothing is appended for want of memory
-pub unmade-before : (n0 : Parts) (s m s' : Session) (asked : Change) (fault : NoteError) → IsSession n0 s → HasNotMade (state_of n0 s) asked m fault → history_of s' ≡ history_of s → s'.book ≡ m.book → s'.joined.items ≡ m.joined.items → s'.logs.items ≡ m.logs.items → s'.work ≡ m.work → IsAsBefore n0 s s'
+pub unmade-before : (n0 : Parts) (s m s' : Held) (asked : Change) (fault : NoteError) → IsHeld n0 s → HasNotMade (state_of n0 s) asked m fault → history_of s' ≡ history_of s → s'.book ≡ m.book → s'.joined.items ≡ m.joined.items → s'.logs.items ≡ m.logs.items → s'.work ≡ m.work → IsAsBefore n0 s s'
 unmade-before n0 s m s' asked fault is done eh eb ej el ew =
     let h : Holds (state_of n0 s) m = done.1 in
     before-holding n0 s s' is eh (record { book = eb ∙ h.book; joined = ej ∙ h.joined; logs = subst (AreLogs (state_of n0 s)) (sym el) h.logs; work = ew ∙ h.work })
 
 -- what a session holds doesn't depend on its history
-pub holds-pushed : (n0 : Parts) (s m : Session) → IsSession n0 s → m.book ≡ s.book → m.joined.items ≡ s.joined.items → m.logs.items ≡ s.logs.items → m.work ≡ s.work → Holds (state_of n0 s) m
+pub holds-pushed : (n0 : Parts) (s m : Held) → IsHeld n0 s → m.book ≡ s.book → m.joined.items ≡ s.joined.items → m.logs.items ≡ s.logs.items → m.work ≡ s.work → Holds (state_of n0 s) m
 holds-pushed n0 s m is eb ej el ew = record { book = eb ∙ is.book; joined = ej ∙ is.joined; logs = subst (AreLogs (state_of n0 s)) (sym el) is.logs; work = ew ∙ is.work }
 
-pub orderly-session : (n0 : Parts) (s : Session) → IsSession n0 s → IsOrderly (state_of n0 s)
+pub orderly-session : (n0 : Parts) (s : Held) → IsHeld n0 s → IsOrderly (state_of n0 s)
 orderly-session n0 s is = orderly-state n0 (history_of s) is.opening is.legal

@@ -1,3 +1,4 @@
+pub mod Held
 pub mod Jobs
 pub mod Logs
 pub mod Session

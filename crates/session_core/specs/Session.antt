@@ -1,5 +1,5 @@
--- A session stands for the state that its history makes of the opening notebook.
-use Rattle.std.specs.Prelude.{◌≡◌, ℕ, Bool, true, false, List, [], ◌∷◌, ◌++◌, find, Option, Some, None, option_map}
+-- A session is told by the notebook with which it opened and its history, which make its state.
+use Rattle.std.specs.Prelude.{◌≡◌, ℕ, ◌==◌, Bool, true, false, List, [], ◌∷◌, ◌++◌, find, Option, Some, None, option_map}
 use Rattle.notebook.specs.declared.parts.Parts.{Parts}
 use Rattle.notebook.specs.declared.parts.Passed.{Passed}
 use Rattle.notebook.specs.declared.states.Lane.{Lane}
@@ -9,10 +9,8 @@ use Rattle.notebook.specs.Rules.{IsNotebook}
 use Rattle.notebook.specs.declared.parts.Cell.{Cell}
 use Rattle.notebook.specs.declared.change.Change.{Change}
 use Rattle.notebook.specs.declared.change.Change.TheVariants.{DeleteSection, DeleteCell}
-use Rattle.notebook.specs.declared.change.Changed.{Changed}
 use Rattle.notebook.specs.declared.change.NoteError.{NoteError}
 use Rattle.notebook.specs.declared.change.NoteError.TheVariants as note
-use Rattle.notebook.specs.Change.{Makes, change, Refuses}
 use Rattle.notebook.specs.Living.{made_cells}
 use Rattle.notebook.specs.Flow.{path}
 use Rattle.notebook.specs.Validity.{validity_by, status_by}
@@ -25,30 +23,30 @@ use Rattle.session_ops.specs.declared.entry.Reply.TheVariants.{Started, Refused}
 use Rattle.session_ops.specs.declared.entry.Refusal.{Refusal}
 use Rattle.session_ops.specs.declared.entry.Refusal.TheVariants as refusal
 use Rattle.session_ops.specs.declared.entry.Entry.{Entry}
-use Rattle.session_ops.specs.State.{State, Job, state, reply, jobs, is_job, Legal, once_made}
+use Rattle.session_ops.specs.State.{State, Job, state, reply, jobs, is_job, Legal}
 use Rattle.revisions.specs.declared.errors.RevError.{RevError}
 use Rattle.revisions.specs.declared.errors.RevError.TheVariants.{TooNew, TooOld, PastEnd, SplitsPair, OutOfMemory}
 use Rattle.session_core.specs.declared.job.PlainJob.{PlainJob}
-use Rattle.session_core.specs.declared.session.Session.{Session}
 use Rattle.session_core.specs.Jobs.{IsAlong}
-use Rattle.session_core.specs.Logs.{AreLogs}
+
+-- what a session is to its callers: the notebook with which it opened, and all that was asked of it since, with its answers
+pub record Session : Type 0 where
+  pub opening : Parts
+  pub history : List Entry
 
 -- all that was asked of the session, with its answers
 abbrev pub history_of : Session → List Entry
-history_of s = s.history.items
+history_of s = s.history
 
--- what its history makes of the notebook with which it opened
+-- what its history makes of a notebook
 abbrev pub state_of : Parts → Session → State
 state_of n0 s = state n0 (history_of s)
 
--- the session's history is legal, and the session holds what the history makes of the opening notebook
+-- the session opened with this notebook, and its history is legal
 pub record IsSession (n0 : Parts) (s : Session) : Type 0 where
-  pub legal : Legal n0 (history_of s)
+  pub of : s.opening ≡ n0
   pub opening : IsNotebook n0
-  pub book : s.book ≡ (state_of n0 s).book
-  pub joined : s.joined.items ≡ (state_of n0 s).joined
-  pub logs : AreLogs (state_of n0 s) s.logs.items
-  pub work : s.work ≡ (state_of n0 s).work
+  pub legal : Legal n0 (history_of s)
 
 abbrev pub entry_of : ℕ → Call → Reply → Entry
 entry_of by call answer = record { by = by; call = call; reply = answer }
@@ -63,11 +61,6 @@ pub record HasAnswered (n0 : Parts) (by : ℕ) (call : Call) (old new : Session)
 abbrev pub LeavesState : Parts → Session → Session → Type 0
 LeavesState n0 old new = state_of n0 new ≡ state_of n0 old
 
--- nothing was appended, and the session stands for its history as before
-pub record IsAsBefore (n0 : Parts) (old new : Session) : Type 0 where
-  pub history : history_of new ≡ history_of old
-  pub session : IsSession n0 new
-
 -- the job was started under this number and isn't answered yet: its source and its bindings are those along the path that was read at its start
 pub record IsHandedOut (n0 : Parts) (s : Session) (by : ℕ) (job : PlainJob) : Type 0 where
   pub out : Job
@@ -75,15 +68,23 @@ pub record IsHandedOut (n0 : Parts) (s : Session) (by : ℕ) (job : PlainJob) : 
   pub number : out.by ≡ by
   pub along : IsAlong out.path job
 
+-- each job that is out stays out
+abbrev pub StayOut : Session → Session → Type 0
+StayOut old new = (owner : ℕ) (job : PlainJob) → IsHandedOut old.opening old owner job → IsHandedOut new.opening new owner job
+
+-- the same, but for that of one evaluation
+abbrev pub OthersStayOut : ℕ → Session → Session → Type 0
+OthersStayOut eval old new = (owner : ℕ) (job : PlainJob) → (eval == job.eval) ≡ false → IsHandedOut old.opening old owner job → IsHandedOut new.opening new owner job
+
 -- an evaluation was started in the lane, and its job handed out: its source, and the bindings over which it is to be evaluated
 pub record HasStarted (n0 : Parts) (by : ℕ) (lane : Lane) (old new : Session) (job : PlainJob) : Type 0 where
   pub may : may_start (state_of n0 old).book (state_of n0 old).work lane ≡ Some job.cell
   pub answered : HasAnswered n0 by (Start lane) old new (Started job.eval job.cell)
   pub handed : IsHandedOut n0 new by job
 
--- the same, or no cell of the lane may start, and nothing was appended
+-- the same, or no cell of the lane may start, and the session is as it was
 abbrev pub HasTriedStart : Parts → ℕ → Lane → Session → Session → Option PlainJob → Type 0
-HasTriedStart n0 by lane old new None = (may_start (state_of n0 old).book (state_of n0 old).work lane ≡ None) × IsAsBefore n0 old new
+HasTriedStart n0 by lane old new None = (may_start (state_of n0 old).book (state_of n0 old).work lane ≡ None) × (new ≡ old)
 HasTriedStart n0 by lane old new (Some job) = HasStarted n0 by lane old new job
 
 -- why a reply refuses
@@ -144,20 +145,6 @@ abbrev pub takes_away : Change → Bool
 takes_away (DeleteSection section) = true
 takes_away (DeleteCell cell) = true
 takes_away asked = false
-
--- the session holds what the state says, whatever its history
-pub record Holds (s : State) (x : Session) : Type 0 where
-  pub book : x.book ≡ s.book
-  pub joined : x.joined.items ≡ s.joined
-  pub logs : AreLogs s x.logs.items
-  pub work : x.work ≡ s.work
-
--- the change was made, or refused for this cause and nothing was changed
-abbrev pub HasMade : State → Change → Session → Changed → Type 0
-HasMade s asked new made = (change s.book asked ≡ Makes new.book made) × Holds (once_made s (Makes new.book made)) new
-
-abbrev pub HasNotMade : State → Change → Session → NoteError → Type 0
-HasNotMade s asked new why = Refuses s.book asked why × Holds s new
 
 -- how a client is told that a change isn't made; for want of memory it is told nothing
 abbrev pub told_change : NoteError → Option Refusal

@@ -9,23 +9,23 @@ ghost use Rattle.session_ops.specs.declared.entry.Call.TheVariants.{Respond};
 ghost use Rattle.session_ops.specs.State.{ChangesNothing};
 ghost use Rattle.session_core.specs.declared.job.PlainJob.{PlainJob as AnyJob};
 ghost use Rattle.session_core.specs.Jobs.{IsAlongTo, answer_by};
-ghost use Rattle.session_core.specs.Session.{IsSession, HasAnswered, HasTriedStart, LeavesState, IsAsBefore, IsHandedOut, state_of};
+ghost use Rattle.session_core.specs.Held.{IsHeld, HasAnswered, HasTriedStart, LeavesState, IsAsBefore, IsHandedOut, state_of};
 
+use crate::held::Held;
 use crate::job::{PlainJob, base_of};
-use crate::session::Session;
 use ex_model::{Bindings, Ran};
 use notebook::{Before, CellId, Lane};
 use session_ops::{Call, Entry, Reply};
 use std::alloc::AllocError;
 use utf16_text::Text;
 
-impl Session {
+impl Held {
     /// Starts the evaluation of the lane's first due cell: appends the start and hands the job out.
     /// `None` exactly where no cell of the lane may start, and then nothing is appended, nor after want
     /// of memory.
-    pub fn start(&mut self, by: u32, lane: Lane) -> Result<Option<PlainJob>, AllocError>
-        ensures ok { (n0 : Parts) → IsSession n0 self.old → IfOk result (HasTriedStart n0 by lane self.old self.new) }
-        ensures err { (n0 : Parts) → IsSession n0 self.old → OnErr result (IsAsBefore n0 self.old self.new) }
+    pub(crate) fn start(&mut self, by: u32, lane: Lane) -> Result<Option<PlainJob>, AllocError>
+        ensures ok { (n0 : Parts) → IsHeld n0 self.old → IfOk result (HasTriedStart n0 by lane self.old self.new) }
+        ensures err { (n0 : Parts) → IsHeld n0 self.old → OnErr result (IsAsBefore n0 self.old self.new) }
     {
         let Some(cell) = self.work.may_start(&self.book, lane) else {
             return Ok(None);
@@ -49,8 +49,8 @@ impl Session {
         source: Text,
         base: Bindings,
     ) -> Result<PlainJob, AllocError>
-        ensures ok { (n0 : Parts) → IsSession n0 self.old → may_start self.old.book self.old.work lane ≡ Some cell → IsAlongTo self.old.book cell source base → IfOk result (λ job. HasTriedStart n0 by lane self.old self.new (Some job)) }
-        ensures err { (n0 : Parts) → IsSession n0 self.old → OnErr result (IsAsBefore n0 self.old self.new) }
+        ensures ok { (n0 : Parts) → IsHeld n0 self.old → may_start self.old.book self.old.work lane ≡ Some cell → IsAlongTo self.old.book cell source base → IfOk result (λ job. HasTriedStart n0 by lane self.old self.new (Some job)) }
+        ensures err { (n0 : Parts) → IsHeld n0 self.old → OnErr result (IsAsBefore n0 self.old self.new) }
     {
         let Some(eval) = self.work.started.checked_add(1) else {
             return Err(AllocError);
@@ -80,10 +80,10 @@ impl Session {
     /// Answers an evaluation that was started under the same number and isn't answered yet, with what
     /// its source gives over its bindings within 200,000 steps: `Stored` where it still runs, and else
     /// `Late`, and then the history alone changes. After want of memory nothing is appended.
-    pub fn respond(&mut self, by: u32, eval: u64, ran: Ran) -> Result<Reply, AllocError>
-        ensures ok { (n0 : Parts) (job : AnyJob) → IsSession n0 self.old → IsHandedOut n0 self.old by job → job.eval ≡ eval → MeansInCell (encode_utf8_all job.source) job.base ran → IfOk result (HasAnswered n0 by (Respond eval ran.shown) self.old self.new) }
-        ensures late { (n0 : Parts) (job : AnyJob) → IsSession n0 self.old → IsHandedOut n0 self.old by job → job.eval ≡ eval → MeansInCell (encode_utf8_all job.source) job.base ran → IfOk result (λ answer. ChangesNothing (Respond eval ran.shown) answer → LeavesState n0 self.old self.new) }
-        ensures err { (n0 : Parts) → IsSession n0 self.old → OnErr result (IsAsBefore n0 self.old self.new) }
+    pub(crate) fn respond(&mut self, by: u32, eval: u64, ran: Ran) -> Result<Reply, AllocError>
+        ensures ok { (n0 : Parts) (job : AnyJob) → IsHeld n0 self.old → IsHandedOut n0 self.old by job → job.eval ≡ eval → MeansInCell (encode_utf8_all job.source) job.base ran → IfOk result (HasAnswered n0 by (Respond eval ran.shown) self.old self.new) }
+        ensures late { (n0 : Parts) (job : AnyJob) → IsHeld n0 self.old → IsHandedOut n0 self.old by job → job.eval ≡ eval → MeansInCell (encode_utf8_all job.source) job.base ran → IfOk result (λ answer. ChangesNothing (Respond eval ran.shown) answer → LeavesState n0 self.old self.new) }
+        ensures err { (n0 : Parts) → IsHeld n0 self.old → OnErr result (IsAsBefore n0 self.old self.new) }
     {
         let shown = ran.shown.copy()?;
         let runs = self.work.running(eval).is_some();

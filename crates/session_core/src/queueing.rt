@@ -6,19 +6,20 @@ ghost use Rattle.session_ops.specs.declared.entry.Op.TheVariants.{Queue as IsQue
 ghost use Rattle.session_ops.specs.State.{reply, code_reply, queue_reply_by, cancel_reply_by};
 ghost use Rattle.lanes.specs.Work.{failed_ancestor, is_queued, is_running};
 ghost use Rattle.std.specs.Prelude.{◌||◌};
-ghost use Rattle.session_core.specs.Session.{IsSession, HasAnswered, IsAsBefore, state_of, refused_by};
+ghost use Rattle.session_core.specs.Held.{IsHeld, HasAnswered, IsAsBefore, state_of};
+ghost use Rattle.session_core.specs.Session.{refused_by};
 
 use crate::clients::is_in;
-use crate::session::Session;
+use crate::held::Held;
 use notebook::{CellId, Kind};
 use session_ops::{Call, Entry, Op, Refusal, Reply};
 use std::alloc::AllocError;
 
-impl Session {
+impl Held {
     /// Queues a cell.
     pub(crate) fn queue(&mut self, by: u32, client: u32, cell: CellId) -> Result<Reply, AllocError>
-        ensures ok { (n0 : Parts) → IsSession n0 self.old → IfOk result (HasAnswered n0 by (Client client (IsQueue cell)) self.old self.new) }
-        ensures err { (n0 : Parts) → IsSession n0 self.old → OnErr result (IsAsBefore n0 self.old self.new) }
+        ensures ok { (n0 : Parts) → IsHeld n0 self.old → IfOk result (HasAnswered n0 by (Client client (IsQueue cell)) self.old self.new) }
+        ensures err { (n0 : Parts) → IsHeld n0 self.old → OnErr result (IsAsBefore n0 self.old self.new) }
     {
         match self.queue_refusal(client, cell) {
             Some(why) => self.refuse(by, client, Op::Queue { cell }, why),
@@ -28,7 +29,7 @@ impl Session {
 
     /// Why a client may not queue a cell.
     fn queue_refusal(&self, client: u32, cell: CellId) -> Option<Refusal>
-        ensures { (n0 : Parts) → IsSession n0 self.now → result ≡ refused_by (reply (state_of n0 self.now) (Client client (IsQueue cell))) }
+        ensures { (n0 : Parts) → IsHeld n0 self.now → result ≡ refused_by (reply (state_of n0 self.now) (Client client (IsQueue cell))) }
     {
         if !is_in(client, self.joined.as_slice()) {
             return Some(Refusal::NotJoined);
@@ -54,8 +55,8 @@ impl Session {
 
     /// Queues a cell that may be queued.
     fn take_queued(&mut self, by: u32, client: u32, cell: CellId) -> Result<Reply, AllocError>
-        ensures ok { (n0 : Parts) → IsSession n0 self.old → refused_by (reply (state_of n0 self.old) (Client client (IsQueue cell))) ≡ None → IfOk result (HasAnswered n0 by (Client client (IsQueue cell)) self.old self.new) }
-        ensures err { (n0 : Parts) → IsSession n0 self.old → OnErr result (IsAsBefore n0 self.old self.new) }
+        ensures ok { (n0 : Parts) → IsHeld n0 self.old → refused_by (reply (state_of n0 self.old) (Client client (IsQueue cell))) ≡ None → IfOk result (HasAnswered n0 by (Client client (IsQueue cell)) self.old self.new) }
+        ensures err { (n0 : Parts) → IsHeld n0 self.old → OnErr result (IsAsBefore n0 self.old self.new) }
     {
         self.history.push(Entry {
             by,
@@ -79,8 +80,8 @@ impl Session {
 
     /// Cancels a cell: it is neither queued nor runs any more.
     pub(crate) fn cancel(&mut self, by: u32, client: u32, cell: CellId) -> Result<Reply, AllocError>
-        ensures ok { (n0 : Parts) → IsSession n0 self.old → IfOk result (HasAnswered n0 by (Client client (IsCancel cell)) self.old self.new) }
-        ensures err { (n0 : Parts) → IsSession n0 self.old → OnErr result (IsAsBefore n0 self.old self.new) }
+        ensures ok { (n0 : Parts) → IsHeld n0 self.old → IfOk result (HasAnswered n0 by (Client client (IsCancel cell)) self.old self.new) }
+        ensures err { (n0 : Parts) → IsHeld n0 self.old → OnErr result (IsAsBefore n0 self.old self.new) }
     {
         match self.cancel_refusal(client, cell) {
             Some(why) => self.refuse(by, client, Op::Cancel { cell }, why),
@@ -90,7 +91,7 @@ impl Session {
 
     /// Why a client may not cancel a cell.
     fn cancel_refusal(&self, client: u32, cell: CellId) -> Option<Refusal>
-        ensures { (n0 : Parts) → IsSession n0 self.now → result ≡ refused_by (reply (state_of n0 self.now) (Client client (IsCancel cell))) }
+        ensures { (n0 : Parts) → IsHeld n0 self.now → result ≡ refused_by (reply (state_of n0 self.now) (Client client (IsCancel cell))) }
     {
         if !is_in(client, self.joined.as_slice()) {
             return Some(Refusal::NotJoined);
@@ -116,8 +117,8 @@ impl Session {
 
     /// Cancels a cell that may be cancelled.
     fn take_cancelled(&mut self, by: u32, client: u32, cell: CellId) -> Result<Reply, AllocError>
-        ensures ok { (n0 : Parts) → IsSession n0 self.old → refused_by (reply (state_of n0 self.old) (Client client (IsCancel cell))) ≡ None → IfOk result (HasAnswered n0 by (Client client (IsCancel cell)) self.old self.new) }
-        ensures err { (n0 : Parts) → IsSession n0 self.old → OnErr result (IsAsBefore n0 self.old self.new) }
+        ensures ok { (n0 : Parts) → IsHeld n0 self.old → refused_by (reply (state_of n0 self.old) (Client client (IsCancel cell))) ≡ None → IfOk result (HasAnswered n0 by (Client client (IsCancel cell)) self.old self.new) }
+        ensures err { (n0 : Parts) → IsHeld n0 self.old → OnErr result (IsAsBefore n0 self.old self.new) }
     {
         self.history.push(Entry {
             by,

@@ -11,11 +11,12 @@ ghost use Rattle.session_ops.specs.State.{State, reply, report_reply};
 ghost use Rattle.revisions.specs.Answer.{IsReportCause};
 ghost use Rattle.session_core.specs.Logs.{place_in};
 ghost use Rattle.session_core.specs.Stands.{IsMovedIn, source_in};
-ghost use Rattle.session_core.specs.Session.{IsSession, HasAnswered, IsAsBefore, state_of, told};
+ghost use Rattle.session_core.specs.Held.{IsHeld, HasAnswered, IsAsBefore, state_of};
+ghost use Rattle.session_core.specs.Session.{told};
 
 use crate::clients::is_in;
+use crate::held::Held;
 use crate::logs::place_of;
-use crate::session::Session;
 use delta::Delta;
 use notebook::CellId;
 use revisions::{Move, ReportError, RevError};
@@ -31,11 +32,11 @@ pub(crate) struct Edit {
     pub(crate) delta: Delta,
 }
 
-impl Session {
+impl Held {
     /// Edits a cell's source.
     pub(crate) fn edit(&mut self, by: u32, edit: Edit) -> Result<Reply, AllocError>
-        ensures ok { (n0 : Parts) → IsSession n0 self.old → IfOk result (HasAnswered n0 by (Client edit.client (IsDelta edit.cell edit.base edit.delta)) self.old self.new) }
-        ensures err { (n0 : Parts) → IsSession n0 self.old → OnErr result (IsAsBefore n0 self.old self.new) }
+        ensures ok { (n0 : Parts) → IsHeld n0 self.old → IfOk result (HasAnswered n0 by (Client edit.client (IsDelta edit.cell edit.base edit.delta)) self.old self.new) }
+        ensures err { (n0 : Parts) → IsHeld n0 self.old → OnErr result (IsAsBefore n0 self.old self.new) }
     {
         if !is_in(edit.client, self.joined.as_slice()) {
             return self.refuse_edit(by, edit, Refusal::NotJoined);
@@ -49,8 +50,8 @@ impl Session {
     /// Edits the source of the cell whose log stands at a place, for a client that has joined.
     fn edit_at(&mut self, by: u32, at: usize, edit: Edit) -> Result<Reply, AllocError>
         requires { Some at ≡ place_in edit.cell self.old.logs.items }
-        ensures ok { (n0 : Parts) → IsSession n0 self.old → is_in edit.client self.old.joined.items ≡ true → IfOk result (HasAnswered n0 by (Client edit.client (IsDelta edit.cell edit.base edit.delta)) self.old self.new) }
-        ensures err { (n0 : Parts) → IsSession n0 self.old → is_in edit.client self.old.joined.items ≡ true → OnErr result (IsAsBefore n0 self.old self.new) }
+        ensures ok { (n0 : Parts) → IsHeld n0 self.old → is_in edit.client self.old.joined.items ≡ true → IfOk result (HasAnswered n0 by (Client edit.client (IsDelta edit.cell edit.base edit.delta)) self.old self.new) }
+        ensures err { (n0 : Parts) → IsHeld n0 self.old → is_in edit.client self.old.joined.items ≡ true → OnErr result (IsAsBefore n0 self.old self.new) }
     {
         match self.logs[at].log.moved(self.alloc, edit.base, &edit.delta) {
             Ok(moved) => self.take(by, at, edit, moved),
@@ -64,8 +65,8 @@ impl Session {
     /// Takes a client's delta, as it was moved to the present source.
     fn take(&mut self, by: u32, at: usize, edit: Edit, moved: Move) -> Result<Reply, AllocError>
         requires { Some at ≡ place_in edit.cell self.old.logs.items }
-        ensures ok { (n0 : Parts) (c : Cell) → IsSession n0 self.old → is_in edit.client self.old.joined.items ≡ true → found edit.cell (cells self.old.book) ≡ Some c → IsMovedIn (state_of n0 self.old) edit.cell c edit.base edit.delta moved → IfOk result (HasAnswered n0 by (Client edit.client (IsDelta edit.cell edit.base edit.delta)) self.old self.new) }
-        ensures err { (n0 : Parts) (c : Cell) → IsSession n0 self.old → is_in edit.client self.old.joined.items ≡ true → found edit.cell (cells self.old.book) ≡ Some c → IsMovedIn (state_of n0 self.old) edit.cell c edit.base edit.delta moved → OnErr result (IsAsBefore n0 self.old self.new) }
+        ensures ok { (n0 : Parts) (c : Cell) → IsHeld n0 self.old → is_in edit.client self.old.joined.items ≡ true → found edit.cell (cells self.old.book) ≡ Some c → IsMovedIn (state_of n0 self.old) edit.cell c edit.base edit.delta moved → IfOk result (HasAnswered n0 by (Client edit.client (IsDelta edit.cell edit.base edit.delta)) self.old self.new) }
+        ensures err { (n0 : Parts) (c : Cell) → IsHeld n0 self.old → is_in edit.client self.old.joined.items ≡ true → found edit.cell (cells self.old.book) ≡ Some c → IsMovedIn (state_of n0 self.old) edit.cell c edit.base edit.delta moved → OnErr result (IsAsBefore n0 self.old self.new) }
     {
         let Edit {
             client,
@@ -104,8 +105,8 @@ impl Session {
 
     /// Refuses a client's delta.
     fn refuse_edit(&mut self, by: u32, edit: Edit, why: Refusal) -> Result<Reply, AllocError>
-        ensures ok { (n0 : Parts) → IsSession n0 self.old → reply (state_of n0 self.old) (Client edit.client (IsDelta edit.cell edit.base edit.delta)) ≡ Refused why → IfOk result (HasAnswered n0 by (Client edit.client (IsDelta edit.cell edit.base edit.delta)) self.old self.new) }
-        ensures err { (n0 : Parts) → IsSession n0 self.old → OnErr result (IsAsBefore n0 self.old self.new) }
+        ensures ok { (n0 : Parts) → IsHeld n0 self.old → reply (state_of n0 self.old) (Client edit.client (IsDelta edit.cell edit.base edit.delta)) ≡ Refused why → IfOk result (HasAnswered n0 by (Client edit.client (IsDelta edit.cell edit.base edit.delta)) self.old self.new) }
+        ensures err { (n0 : Parts) → IsHeld n0 self.old → OnErr result (IsAsBefore n0 self.old self.new) }
     {
         let Edit {
             client,
@@ -124,8 +125,8 @@ impl Session {
         cell: CellId,
         rev: u64,
     ) -> Result<Reply, AllocError>
-        ensures ok { (n0 : Parts) → IsSession n0 self.old → IfOk result (HasAnswered n0 by (Client client (IsReport cell rev)) self.old self.new) }
-        ensures err { (n0 : Parts) → IsSession n0 self.old → OnErr result (IsAsBefore n0 self.old self.new) }
+        ensures ok { (n0 : Parts) → IsHeld n0 self.old → IfOk result (HasAnswered n0 by (Client client (IsReport cell rev)) self.old self.new) }
+        ensures err { (n0 : Parts) → IsHeld n0 self.old → OnErr result (IsAsBefore n0 self.old self.new) }
     {
         if !is_in(client, self.joined.as_slice()) {
             return self.refuse(by, client, Op::Report { cell, rev }, Refusal::NotJoined);
@@ -146,8 +147,8 @@ impl Session {
         rev: u64,
     ) -> Result<Reply, AllocError>
         requires { Some at ≡ place_in cell self.old.logs.items }
-        ensures ok { (n0 : Parts) → IsSession n0 self.old → is_in client self.old.joined.items ≡ true → IfOk result (HasAnswered n0 by (Client client (IsReport cell rev)) self.old self.new) }
-        ensures err { (n0 : Parts) → IsSession n0 self.old → is_in client self.old.joined.items ≡ true → OnErr result (IsAsBefore n0 self.old self.new) }
+        ensures ok { (n0 : Parts) → IsHeld n0 self.old → is_in client self.old.joined.items ≡ true → IfOk result (HasAnswered n0 by (Client client (IsReport cell rev)) self.old self.new) }
+        ensures err { (n0 : Parts) → IsHeld n0 self.old → is_in client self.old.joined.items ≡ true → OnErr result (IsAsBefore n0 self.old self.new) }
     {
         self.history.push(Entry {
             by,

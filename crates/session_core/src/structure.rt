@@ -9,17 +9,18 @@ ghost use Rattle.session_ops.specs.Orderly.{IsOrderly};
 ghost use Rattle.session_ops.specs.State.{State, made_reply};
 ghost use Rattle.session_ops.specs.Structure.{change_of};
 ghost use Rattle.session_core.specs.Logs.{log_lives};
-ghost use Rattle.session_core.specs.Session.{IsSession, Holds, HasAnswered, HasMade, HasNotMade, IsAsBefore, history_of, new_source, takes_away, told_change};
+ghost use Rattle.session_core.specs.Held.{IsHeld, Holds, HasAnswered, HasMade, HasNotMade, IsAsBefore, history_of};
+ghost use Rattle.session_core.specs.Session.{new_source, takes_away, told_change};
 
 use crate::clients::is_in;
+use crate::held::Held;
 use crate::logs::{CellLog, drop_dead, new_log};
-use crate::session::Session;
 use notebook::{Cell, CellId, Change, Changed, NoteError, Notebook, Parts};
 use session_ops::{Call, Entry, Op, Refusal, Reply};
 use std::alloc::{AllocError, Global};
 use utf16_text::Text;
 
-impl Session {
+impl Held {
     /// Changes the notebook's structure, as the operation asks.
     pub(crate) fn restructure(
         &mut self,
@@ -29,8 +30,8 @@ impl Session {
         change: Change,
     ) -> Result<Reply, AllocError>
         requires { change_of op ≡ Some change }
-        ensures ok { (n0 : AnyParts) → IsSession n0 self.old → IfOk result (HasAnswered n0 by (Client client op) self.old self.new) }
-        ensures err { (n0 : AnyParts) → IsSession n0 self.old → OnErr result (IsAsBefore n0 self.old self.new) }
+        ensures ok { (n0 : AnyParts) → IsHeld n0 self.old → IfOk result (HasAnswered n0 by (Client client op) self.old self.new) }
+        ensures err { (n0 : AnyParts) → IsHeld n0 self.old → OnErr result (IsAsBefore n0 self.old self.new) }
     {
         if !is_in(client, self.joined.as_slice()) {
             return self.refuse(by, client, op, Refusal::NotJoined);

@@ -1,0 +1,9 @@
+use Rattle.std.proofs.Common.{refl}
+use Rattle.session_core.proofs.SessionLaws.{refused-session, untouched, on-err}
+use Rattle.session_core.proofs.held.Held.refuse.Goals as goal
+
+pub returns-clause-ok : goal.returns-clause-ok
+returns-clause-ok c = λ n0 is r. refused-session n0 c.args.self.now _ c.args.by c.args.client c.args.op c.args.why is r c.in_ok-push.ensures.items refl refl refl refl
+
+pub returns-in_err-push-clause-err : goal.returns-in_err-push-clause-err
+returns-in_err-push-clause-err c = λ n0 is. on-err _ _ (untouched n0 c.args.self.now _ is c.in_err-push.ensures.items refl refl refl refl)
