@@ -1,9 +1,14 @@
 //! Calls of a session with starts and answers apart, which no script can make: the work of all lanes, and what a session
 //! hands out.
+ghost use Rattle.std.specs.Prelude.{IfSome};
+ghost use Rattle.std.specs.Str.{encode_utf8_all};
+ghost use Rattle.ex_model.specs.Along.{MeansInCell};
+ghost use Rattle.session_core.specs.Session.{IsHandedOut, StayOut};
+
 use crate::answer::Answer;
 use crate::books::read_book;
 use ex_machine::run;
-use ex_model::{Bindings, Ran};
+use ex_model::Ran;
 use notebook::{CellId, Lane, Status, Validity};
 use script::{ScriptLine, read_script};
 use session_core::{PlainJob, STEPS, Session};
@@ -18,6 +23,14 @@ const EVALUATOR: u32 = 1;
 const LANES: &str =
     "## A\n```elixir\n\n```\n```elixir\n\n```\n<!-- livebook:{\"branch_parent_index\":0} -->\n## B\n```elixir\n\n```\n```elixir\n\n```\n<!-- livebook:{\"branch_parent_index\":0} -->\n## C\n```elixir\n\n```\n## D\n```elixir\n\n```\n";
 
+/// The same, but cell 1 reads a name that nothing binds.
+const FAULTY: &str =
+    "## A\n```elixir\ny\n```\n```elixir\n\n```\n<!-- livebook:{\"branch_parent_index\":0} -->\n## B\n```elixir\n\n```\n```elixir\n\n```\n<!-- livebook:{\"branch_parent_index\":0} -->\n## C\n```elixir\n\n```\n## D\n```elixir\n\n```\n";
+
+/// The same, but the setup cell and cell 3 are worth 1.
+const WORTH_ONE: &str =
+    "```elixir\n1\n```\n## A\n```elixir\n\n```\n```elixir\n\n```\n<!-- livebook:{\"branch_parent_index\":0} -->\n## B\n```elixir\n1\n```\n```elixir\n\n```\n<!-- livebook:{\"branch_parent_index\":0} -->\n## C\n```elixir\n\n```\n## D\n```elixir\n\n```\n";
+
 /// In a notebook without a name: a section `A` with two code cells, 1 and 2, and a branch `B` of it with the code cell 3.
 const PLAN: &str =
     "rawjoin ann\nraw ann insert_section 0 \"A\"\nraw ann insert_section 1 \"B\"\nraw ann set_parent 2 1\nraw ann insert_cell 1 0 code\nraw ann insert_cell 1 1 code\nraw ann insert_cell 2 0 code\n";
@@ -29,14 +42,14 @@ enum Step {
     Call(&'static str),
     /// The line of a script is refused.
     Refuse(&'static str, Refusal),
-    /// In the lane the cell is started, under the number.
+    /// In the lane the cell is started, under the number, and its answer never comes.
     Start(Lane, u64, CellId),
-    /// What the source gives is the answer of the evaluation of the number, and is stored.
-    Respond(u64, &'static str),
-    /// The same, and it comes too late.
-    RespondLate(u64, &'static str),
     /// In the lane the cell is started, under the number, run as it was handed out, and the answer is stored.
     Run(Lane, u64, CellId),
+    /// The same, but while it runs the lines of a script are called, and none is refused.
+    RunWhile(Lane, u64, CellId, &'static str),
+    /// The same, and after these lines the answer comes too late.
+    RunLate(Lane, u64, CellId, &'static str),
     /// In the lane nothing may start, and no call is made.
     Waits(Lane),
     /// The first lane that may start.
@@ -53,7 +66,7 @@ enum Step {
 }
 
 use Step::{
-    Call, Calls, HasNoRow, Idle, Ready, Refuse, Respond, RespondLate, Run, Snapshot, Stands, Start,
+    Call, Calls, HasNoRow, Idle, Ready, Refuse, Run, RunLate, RunWhile, Snapshot, Stands, Start,
     Waits,
 };
 
@@ -90,15 +103,16 @@ const STORIES: [Story; 11] = [
             Waits(Lane::Branch(3)),
             Ready(Lane::Branch(2)),
             Start(Lane::Branch(2), 5, 3),
+            Stands(3, Status::Evaluating, Validity::Fresh),
         ],
     },
     // It goes through a branch.
     Story {
         book: LANES,
         steps: &[
-            Call("rawjoin ann\nraw ann queue 4\nraw ann queue 5\n"),
+            Call("rawjoin ann\nraw ann queue 4\n"),
             Run(Lane::Main, 1, 0),
-            Run(Lane::Main, 2, 1),
+            RunWhile(Lane::Main, 2, 1, "raw ann queue 5\n"),
             Run(Lane::Main, 3, 2),
             Run(Lane::Branch(2), 4, 3),
             Run(Lane::Branch(2), 5, 4),
@@ -109,12 +123,11 @@ const STORIES: [Story; 11] = [
     },
     // A fault ends what waits for it.
     Story {
-        book: LANES,
+        book: FAULTY,
         steps: &[
             Call("rawjoin ann\nraw ann queue 2\nraw ann queue 3\n"),
             Run(Lane::Main, 1, 0),
-            Start(Lane::Main, 2, 1),
-            Respond(2, "y"),
+            Run(Lane::Main, 2, 1),
             Stands(1, Status::Ready, Validity::Evaluated),
             Stands(2, Status::Ready, Validity::Aborted),
             Stands(3, Status::Ready, Validity::Aborted),
@@ -124,13 +137,10 @@ const STORIES: [Story; 11] = [
     },
     // A cancelled answer is late.
     Story {
-        book: LANES,
+        book: WORTH_ONE,
         steps: &[
             Call("rawjoin ann\nraw ann queue 0\n"),
-            Start(Lane::Main, 1, 0),
-            Stands(0, Status::Evaluating, Validity::Fresh),
-            Call("raw ann cancel 0\n"),
-            RespondLate(1, "1"),
+            RunLate(Lane::Main, 1, 0, "raw ann cancel 0\n"),
             Stands(0, Status::Ready, Validity::Aborted),
         ],
     },
@@ -150,18 +160,16 @@ const STORIES: [Story; 11] = [
     },
     // Another lane takes the evaluation away.
     Story {
-        book: LANES,
+        book: WORTH_ONE,
         steps: &[
             Call("rawjoin ann\nraw ann queue 4\nraw ann queue 6\n"),
             Run(Lane::Main, 1, 0),
             Run(Lane::Main, 2, 1),
             Run(Lane::Main, 3, 2),
-            Start(Lane::Branch(2), 4, 3),
-            Start(Lane::Main, 5, 6),
-            Call("raw ann set_parent 2 none\n"),
+            Start(Lane::Main, 4, 6),
+            RunLate(Lane::Branch(2), 5, 3, "raw ann set_parent 2 none\n"),
             Stands(3, Status::Ready, Validity::Aborted),
             Stands(6, Status::Evaluating, Validity::Fresh),
-            RespondLate(4, "1"),
         ],
     },
     // Another source makes it stale.
@@ -203,10 +211,7 @@ const STORIES: [Story; 11] = [
         steps: &[
             Call(PLAN),
             Call("raw ann queue 0\n"),
-            Start(Lane::Main, 1, 0),
-            Stands(0, Status::Evaluating, Validity::Fresh),
-            Call("raw ann cancel 0\n"),
-            RespondLate(1, ""),
+            RunLate(Lane::Main, 1, 0, "raw ann cancel 0\n"),
             Stands(0, Status::Ready, Validity::Aborted),
         ],
     },
@@ -223,20 +228,31 @@ fn open(alloc: Global, book: &str) -> Option<Session> {
 }
 
 /// The reply to what a client asks.
-fn ask(session: &mut Session, client: u32, op: Op) -> Option<Reply> {
+fn ask(session: &mut Session, client: u32, op: Op) -> Option<Reply>
+    ensures { StayOut session.old session.new }
+{
     session.apply(0, client, op).ok()
 }
 
-/// Makes the call of a line, and tells why it is refused, if it is.
-fn follow_line(alloc: Global, session: &mut Session, line: &ScriptLine) -> Option<Option<Refusal>> {
-    let reply = match line {
-        ScriptLine::RawJoin { client } => ask(session, *client, Op::Join)?,
-        ScriptLine::Raw { client, op } => ask(session, *client, op.copy(alloc).ok()?)?,
-        _ => return None,
-    };
+/// The reply to the call of a line.
+fn call(alloc: Global, session: &mut Session, line: &ScriptLine) -> Option<Reply>
+    ensures { StayOut session.old session.new }
+{
+    match line {
+        ScriptLine::RawJoin { client } => ask(session, *client, Op::Join),
+        ScriptLine::Raw { client, op } => {
+            let op = op.copy(alloc).ok()?;
+            ask(session, *client, op)
+        }
+        _ => None,
+    }
+}
+
+/// Why a call was refused, if it was.
+fn refusal_of(reply: &Reply) -> Option<Refusal> {
     match reply {
-        Reply::Refused(why) => Some(Some(why)),
-        _ => Some(None),
+        Reply::Refused(why) => Some(*why),
+        _ => None,
     }
 }
 
@@ -246,9 +262,12 @@ fn follow_lines(
     session: &mut Session,
     lines: &[ScriptLine],
     refusal: Option<Refusal>,
-) -> Option<bool> {
+) -> Option<bool>
+    ensures { StayOut session.old session.new }
+{
     for line in lines {
-        if follow_line(alloc, session, line)? != refusal {
+        let reply = call(alloc, session, line)?;
+        if refusal_of(&reply) != refusal {
             return Some(false);
         }
     }
@@ -261,29 +280,34 @@ fn follow(
     session: &mut Session,
     script: &str,
     refusal: Option<Refusal>,
-) -> Option<bool> {
+) -> Option<bool>
+    ensures { StayOut session.old session.new }
+{
     let script = read_script(alloc, script.as_bytes()).ok()?;
     follow_lines(alloc, session, script.content().lines.as_slice(), refusal)
 }
 
 /// The next job of a lane, if there is one; none where a call was refused.
-fn start(session: &mut Session, lane: Lane) -> Option<Option<PlainJob>> {
+fn start(session: &mut Session, lane: Lane) -> Option<Option<PlainJob>>
+    ensures { IfSome result (λ started. IfSome started
+        (IsHandedOut session.new.opening session.new 1)) }
+{
     session.start(EVALUATOR, lane).ok()
 }
 
 /// What a job gives.
-fn ran(alloc: Global, job: &PlainJob) -> Option<Ran> {
+fn ran(alloc: Global, job: &PlainJob) -> Option<Ran>
+    ensures { IfSome result (MeansInCell (encode_utf8_all job.now.source) job.now.base) }
+{
     run(alloc, job.source.as_str(), &job.base, STEPS).ok()
 }
 
-/// What a source gives over no bindings.
-fn ran_source(alloc: Global, source: &str) -> Option<Ran> {
-    run(alloc, source, &Bindings::new(alloc), STEPS).ok()
-}
-
-/// Answers an evaluation, and tells whether the answer was stored.
-fn respond(session: &mut Session, eval: u64, ran: Ran) -> Option<bool> {
-    let reply = session.respond(EVALUATOR, eval, ran).ok()?;
+/// Answers a job that is out, and tells whether the answer was stored.
+fn respond(session: &mut Session, job: &PlainJob, ran: Ran) -> Option<bool>
+    requires out { IsHandedOut session.old.opening session.old 1 job.now }
+    requires means { MeansInCell (encode_utf8_all job.now.source) job.now.base ran }
+{
+    let reply = session.respond(EVALUATOR, job.eval, ran).ok()?;
     Some(matches!(reply, Reply::Stored { .. }))
 }
 
@@ -291,16 +315,31 @@ fn respond(session: &mut Session, eval: u64, ran: Ran) -> Option<bool> {
 fn starts(session: &mut Session, lane: Lane, eval: u64, cell: CellId) -> Option<bool> {
     match start(session, lane)? {
         None => Some(false),
-        Some(job) => Some(job.eval == eval && job.cell == cell),
+        Some(job) => Some(is_of(&job, eval, cell)),
     }
 }
 
-/// Whether the cell is started in the lane, under the number, and what it gives is stored.
-fn runs(alloc: Global, session: &mut Session, lane: Lane, eval: u64, cell: CellId) -> Option<bool> {
+/// Whether a job is of the cell, under the number.
+fn is_of(job: &PlainJob, eval: u64, cell: CellId) -> bool {
+    job.eval == eval && job.cell == cell
+}
+
+/// Whether the cell is started in the lane, under the number, the lines that are called while it runs aren't refused, and
+/// what it gives is stored, or comes too late, as is wanted.
+fn runs(
+    alloc: Global,
+    session: &mut Session,
+    lane: Lane,
+    eval: u64,
+    cell: CellId,
+    script: &str,
+    stored: bool,
+) -> Option<bool> {
     let job = start(session, lane)??;
+    let followed = follow(alloc, session, script, None)?;
     let ran = ran(alloc, &job)?;
-    let stored = respond(session, eval, ran)?;
-    Some(stored && job.eval == eval && job.cell == cell)
+    let answer = respond(session, &job, ran)?;
+    Some(followed && answer == stored && is_of(&job, eval, cell))
 }
 
 /// Whether in the lane no cell may start, so that nothing is handed out and no call is made.
@@ -357,12 +396,13 @@ fn goes(alloc: Global, session: &mut Session, step: Step) -> Option<bool> {
         Call(script) => follow(alloc, session, script, None),
         Refuse(script, why) => follow(alloc, session, script, Some(why)),
         Start(lane, eval, cell) => starts(session, lane, eval, cell),
-        Respond(eval, source) => respond(session, eval, ran_source(alloc, source)?),
-        RespondLate(eval, source) => {
-            let stored = respond(session, eval, ran_source(alloc, source)?)?;
-            Some(!stored)
+        Run(lane, eval, cell) => runs(alloc, session, lane, eval, cell, "", true),
+        RunWhile(lane, eval, cell, script) => {
+            runs(alloc, session, lane, eval, cell, script, true)
         }
-        Run(lane, eval, cell) => runs(alloc, session, lane, eval, cell),
+        RunLate(lane, eval, cell, script) => {
+            runs(alloc, session, lane, eval, cell, script, false)
+        }
         Waits(lane) => waits(session, lane),
         Snapshot(cursor, cells) => is_snapshot(session, cursor, cells),
         _ => Some(shows(session, step)),

@@ -1,6 +1,5 @@
 -- What one evaluation makes of a session.
 use Rattle.std.proofs.Common.{◌≡◌, ℕ, List, [], ◌∷◌, ◌++◌, Option, Some, None, refl, sym, ap, subst, ◌∙◌, append_assoc}
-use Rattle.std.proofs.lemmas.List.{append-nil}
 use Rattle.ex_model.specs.declared.ran.Shown.{Shown}
 use Rattle.notebook.specs.declared.parts.Parts.{Parts}
 use Rattle.notebook.specs.declared.states.Lane.{Lane}
@@ -12,16 +11,11 @@ use Rattle.session_ops.specs.declared.entry.Entry.{Entry}
 use Rattle.lanes.specs.declared.work.Running.{Running}
 use Rattle.lanes.specs.Changes.{running_eval}
 use Rattle.session_ops.specs.State.{respond_reply}
-use Rattle.session_core.specs.Session.{HasAnswered, HasStarted, IsAsBefore, history_of, state_of, entry_of, ready_lane}
-use Rattle.session_core.specs.declared.session.Session.{Session}
+use Rattle.session_core.specs.Session.{Session, HasAnswered, HasStarted, history_of, state_of, entry_of, ready_lane}
 use Rattle.driver.specs.Headline.{AllAnswered, IsFollowed}
 use Rattle.driver.specs.Settling.{HasGoneOn, HasResponded}
 use Rattle.driver.proofs.Marks.{followed-more}
-use Rattle.driver.proofs.Readying.{ready-none, ready-append, ready-start, ready-response}
-
--- nothing was evaluated
-pub gone-as-before : (n0 : Parts) (by : ℕ) (a b : Session) → IsAsBefore n0 a b → HasGoneOn n0 by a b
-gone-as-before n0 by a b x = record { more = []; history = x.history ∙ sym (append-nil (history_of a)); evaluations = tt; ready = ready-none n0 by (history_of a); answered = λ all. subst AllAnswered (sym x.history) all; session = x.session }
+use Rattle.driver.proofs.Readying.{ready-append, ready-start, ready-response}
 
 -- an evaluation is answered as stored or as late
 ends-here : (eval : ℕ) (o : Option Running) → IsFollowed (respond_reply eval o) []

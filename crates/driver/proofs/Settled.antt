@@ -12,8 +12,7 @@ use Rattle.session_ops.specs.Numbers.{is_in}
 use Rattle.session_ops.specs.State.{State, Job, state, opening, reply, after_call, entries_by, jobs_after, jobs_from, HasReplies}
 use Rattle.lanes.specs.declared.work.Work.{Work}
 use Rattle.session_ops.proofs.Growing.{state-append}
-use Rattle.session_core.specs.Session.{IsSession, history_of, state_of}
-use Rattle.session_core.specs.declared.session.Session.{Session}
+use Rattle.session_core.specs.Session.{Session, IsSession, history_of, state_of}
 use Rattle.client_sync.specs.Client.{Client as Holder}
 use Rattle.world.specs.Claims.{IsBehind, HasJoined}
 use Rattle.world.specs.Waiting.{IsHonest}

@@ -20,8 +20,7 @@ use Rattle.transcript.specs.Texts.{as_text, ended_line}
 use Rattle.transcript.specs.States.{state_line}
 use Rattle.lanes.specs.declared.judge.Row.{Row}
 use Rattle.lanes.specs.Rows.{IsRow}
-use Rattle.session_core.specs.Session.{state_of}
-use Rattle.session_core.specs.declared.session.Session.{Session}
+use Rattle.session_core.specs.Session.{Session, state_of}
 use Rattle.driver.specs.Statuses.{Tells, HasPath, HasPathIfCode, AllHavePaths, AllSectionsHavePaths, cell_line, line_of_kind, code_lines, section_code_lines, setup_line}
 
 -- one more cell

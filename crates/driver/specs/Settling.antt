@@ -6,8 +6,7 @@ use Rattle.lanes.specs.Work.{is_idle}
 use Rattle.ex_model.specs.declared.ran.Shown.{Shown}
 use Rattle.session_ops.specs.declared.entry.Call.TheVariants.{Respond}
 use Rattle.session_ops.specs.declared.entry.Reply.{Reply}
-use Rattle.session_core.specs.Session.{IsSession, HasAnswered, history_of, state_of, ready_lane}
-use Rattle.session_core.specs.declared.session.Session.{Session}
+use Rattle.session_core.specs.Session.{Session, IsSession, HasAnswered, history_of, state_of, ready_lane}
 use Rattle.driver.specs.Headline.{AllAnswered, IsEvaluation, TakeReadyLanes}
 
 -- evaluations under a number

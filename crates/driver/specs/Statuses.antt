@@ -13,8 +13,7 @@ use Rattle.notebook.specs.Validity.{validity_by, status_by}
 use Rattle.lanes.specs.declared.work.Work.{Work}
 use Rattle.lanes.specs.Work.{is_queued, is_aborted, is_running, last_finished, path_read, shown_in}
 use Rattle.transcript.specs.States.{state_line}
-use Rattle.session_core.specs.Session.{IsSession, state_of}
-use Rattle.session_core.specs.declared.session.Session.{Session}
+use Rattle.session_core.specs.Session.{Session, IsSession, state_of}
 
 -- what a cell's last evaluation is worth now
 abbrev pub validity_now : Parts → Work → ℕ → Validity

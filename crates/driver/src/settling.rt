@@ -43,7 +43,8 @@ fn evaluate(alloc: Global, session: &mut Session, by: u32) -> Result<(), AllocEr
 
 /// Evaluates a job that was handed out, and answers it.
 fn answer(alloc: Global, session: &mut Session, by: u32, job: PlainJob) -> Result<(), AllocError>
-    ensures { (n0 : Parts) → IsSession n0 session.old → IsHandedOut n0 session.old by job → OnOk result (HasResponded n0 by job.eval session.old session.new) }
+    requires { IsHandedOut session.old.opening session.old by job }
+    ensures { (n0 : Parts) → IsSession n0 session.old → OnOk result (HasResponded n0 by job.eval session.old session.new) }
 {
     let ran = run(alloc, job.source.as_str(), &job.base, STEPS)?;
     session.respond(by, job.eval, ran)?;

@@ -1,4 +1,5 @@
 pub mod Basing
+pub mod Calls
 pub mod EvaluationLaws
 pub mod Handing
 pub mod HonestDeltas
@@ -9,6 +10,7 @@ pub mod Owners
 pub mod Paths
 pub mod QueueLaws
 pub mod ReaderLaws
+pub mod Seen
 pub mod SessionLaws
 pub mod SourceLaws
 pub mod Standing

@@ -2,16 +2,18 @@
 //! server's order, the clients that have joined, what is asked of the evaluators of all lanes, and the
 //! history of all calls.
 //!
-//! What the layers above may rely on: `IsSession n0 s` says that a [`Session`] `s`, which opened with
-//! the notebook `n0`, has a legal history and holds what that history makes of `n0`. [`Session::new`]
-//! gives it, and each call keeps it, also where memory is wanting. A call appends the one entry that it
-//! names, with the reply of the definitions. `IsHandedOut n0 s by job` says that a job was started
-//! under the number `by`, with its source and its bindings, and isn't answered yet: [`Session::start`]
-//! gives it, [`Session::respond`] wants it of the job that it answers, and no other call ends it.
+//! What the layers above may rely on: a [`Session`] is told by the notebook with which it opened and
+//! its history. The history is always legal, also after want of memory, and all that a session holds is
+//! what its history makes of its opening notebook (clause `legal` of [`Session::history`]). No call asks
+//! for more, but that [`Session::respond`] wants a job that is out. A call appends the one entry that it
+//! names, with the reply of the definitions, and keeps the opening. `IsHandedOut n0 s by job` says that
+//! a job was started under the number `by`, with its source and its bindings, and isn't answered yet:
+//! [`Session::start`] gives it, and no other call than its answer ends it (clauses `out`).
 #![tactic(auto)]
 
 mod clients;
 mod evaluations;
+mod held;
 mod job;
 mod logs;
 mod queueing;

@@ -1,11 +1,13 @@
 -- What a step leaves in memory stands for what its event makes of the world.
 use Rattle.std.proofs.Common.{◌≡◌, ℕ, ◌+◌, ◌<◌, true, false, if◌then◌else◌, List, [], ◌∷◌, ◌++◌, length, take, drop, set, get_or, map, Option, Some, None, refl, sym, ap, subst, ◌∙◌, add-one, drop-cons, arith, length-append}
 use Rattle.std.specs.List.{AllByRecursion, remove}
+use Rattle.std.specs.Prelude.{Result, OnOk}
 use Rattle.std.proofs.Math.Seq.{take-append_seam}
 use Rattle.std.proofs.lemmas.List.{take_more}
 use Rattle.delta.specs.declared.Step.{Step}
 use Rattle.notebook.specs.declared.parts.Parts.{Parts}
 use Rattle.session_ops.specs.declared.entry.Op.{Op}
+use Rattle.session_ops.specs.declared.entry.Op.TheVariants.{Join as Joins}
 use Rattle.session_ops.specs.declared.entry.Call.{Call}
 use Rattle.session_ops.specs.declared.entry.Call.TheVariants.{Client as ByClient}
 use Rattle.session_ops.specs.declared.entry.Reply.{Reply}
@@ -16,13 +18,12 @@ use Rattle.client_sync.specs.declared.client.Client.{Client}
 use Rattle.client_sync.specs.Stands.{Mirrors, IsNextEntry}
 use Rattle.session_ops.specs.Born.{TouchesMadeCells}
 use Rattle.session_ops.specs.Structure.{is_postable}
-use Rattle.session_core.specs.declared.session.Session.{Session}
 use Rattle.notebook.specs.Rules.{IsNotebook}
-use Rattle.session_core.specs.Session.{IsSession, HasAnswered, history_of, entry_of}
+use Rattle.session_core.specs.Session.{Session, IsSession, HasAnswered, history_of, entry_of}
 use Rattle.world.specs.declared.event.Event.{Event}
-use Rattle.world.specs.declared.event.Event.TheVariants.{Edit, Post, Report, Take, Receive, Raw}
+use Rattle.world.specs.declared.event.Event.TheVariants.{Join, Edit, Post, Report, Take, Receive, Raw}
 use Rattle.world.specs.declared.world.World.{World}
-use Rattle.world.specs.World.{World as Course, called, with_client, once_gone, with_edited, posted, with_reported, taken, delivered_next, if_held, raw, happens, after_events, run}
+use Rattle.world.specs.World.{World as Course, called, with_joined, with_client, once_gone, with_edited, posted, with_reported, taken, delivered_next, if_held, raw, happens, after_events, run}
 use Rattle.world.specs.Claims.{IsBehind, number_of}
 use Rattle.world.specs.Waiting.{IsHonest}
 use Rattle.world.specs.Sound.{AreApart, IsApart, IsSound}
@@ -118,6 +119,14 @@ called-plays w x y call answer is done same =
       history = done.history ∙ (ap (λ h. h ++ entry_of 0 call answer ∷ []) is.history ∙ ap (λ a. w.history ++ entry_of 0 call a ∷ []) right);
       clients = subst (λ cs. AreMirrors w.opening cs w.clients) (sym same) is.clients;
     }
+
+-- a number that asked to join, of which the rest is told by the answer
+pub joined-plays : {A E : Type 0} (w : Course) (x y z : World) (n : ℕ) (answer : Reply) (r : Result A E) → Plays w x → HasAnswered w.opening 0 (ByClient n Joins) x.session y.session answer → y.clients.items ≡ x.clients.items
+    → ((v : Course) → Plays v y → OnOk r (Plays (with_joined v n answer) z)) → OnOk r (Plays (happens w (Join n)) z)
+joined-plays w x y z n answer r is done same rest =
+    let call : Call = ByClient n Joins in
+    let right : answer ≡ reply (state w.opening w.history) call = done.right ∙ ap (λ h. reply (state w.opening h) call) is.history in
+    subst (λ a. OnOk r (Plays (with_joined (called w call) n a) z)) right (rest (called w call) (called-plays w x y call answer is done same))
 
 -- a new client that has received all
 pub added-plays : (w : Course) (x y : World) (n : ℕ) (c : Client) → Plays w x → y.session ≡ x.session → y.clients.items ≡ x.clients.items ++ c ∷ [] → Mirrors w.opening c (joined_client n (history_of x.session)) → Plays (record w { clients = w.clients ++ joined_client n w.history ∷ [] }) y

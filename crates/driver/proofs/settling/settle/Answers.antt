@@ -2,6 +2,7 @@ use Rattle.std.proofs.Common.{◌≡◌, true, sym}
 use Rattle.lanes.specs.Work.{is_idle}
 use Rattle.session_ops.specs.State.{State}
 use Rattle.session_core.specs.Session.{state_of}
+use Rattle.session_core.proofs.Calls.{told-over}
 use Rattle.driver.proofs.Readying.{idle-none}
 use Rattle.driver.proofs.Settled.{gone-further, gone-nowhere}
 use Rattle.driver.proofs.settling.settle.Goals as goal
@@ -17,6 +18,6 @@ loop-preserved g c = λ n0 is.
 pub returns-then-idle : goal.returns-then-idle
 returns-then-idle g c = λ n0 is.
     let so_far = c.loop.invariant n0 is in
-    let idle : is_idle (state_of n0 c.loop.session).work ≡ true = sym (c.if-idle.ensures n0 so_far.session) in
+    let idle : is_idle (state_of n0 c.loop.session).work ≡ true = told-over (λ st. is_idle st.work ≡ true) n0 c.loop.session so_far.session (sym c.if-idle.ensures) in
     let last : State = state_of n0 c.loop.session in
     record { gone = so_far; idle = idle; over = idle-none last.book last.work idle }

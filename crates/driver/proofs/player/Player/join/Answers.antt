@@ -11,7 +11,7 @@ use Rattle.driver.proofs.player.Player.join.Goals as goal
 pub returns-in_ok-push_joined-in-Accepted : goal.returns-in_ok-push_joined-in-Accepted
 returns-in_ok-push_joined-in-Accepted c = λ g s nm st.
     let called : HasCalled g.opening (ByClient c.args.client Joins) c.args.self.now c.call.new.self Accepted = subst (HasCalled g.opening (ByClient c.args.client Joins) c.args.self.now c.call.new.self) c.in-Accepted.is (c.in_ok-reply.ensures g.opening st.session) in
-    join-admitted g c.args.self.now c.call.new.self c.admit.new.self s c.args.client c.args.name.now _ _ c.history.result.now nm st called.answered called.clients called.marks (c.in_ok-admit-in-Accepted.ensures g.opening called.answered.session) c.history.ensures c.in_ok-push_joined-in-Accepted.ensures
+    join-admitted g c.args.self.now c.call.new.self c.admit.new.self s c.args.client c.args.name.now _ _ c.history.result.now nm st called.answered called.clients called.marks (c.in_ok-admit-in-Accepted.ensures g.opening called.answered.session) c.history.ensures.entries c.in_ok-push_joined-in-Accepted.ensures
 
 pub returns-in_ok-push_not_joined-in_default : goal.returns-in_ok-push_not_joined-in_default
 returns-in_ok-push_not_joined-in_default c = λ g s nm st.

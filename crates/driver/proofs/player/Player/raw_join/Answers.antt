@@ -11,7 +11,7 @@ use Rattle.driver.proofs.player.Player.raw_join.Goals as goal
 pub returns-in_ok-push_raw_joined-in-Accepted : goal.returns-in_ok-push_raw_joined-in-Accepted
 returns-in_ok-push_raw_joined-in-Accepted c = λ g s nm st.
     let called : HasCalled g.opening (ByClient c.args.client Joins) c.args.self.now c.call.new.self Accepted = subst (HasCalled g.opening (ByClient c.args.client Joins) c.args.self.now c.call.new.self) c.in-Accepted.is (c.in_ok-reply.ensures g.opening st.session) in
-    raw-join-accepted g c.args.self.now _ s c.args.client c.args.name.now _ _ c.history.result.now nm st called.answered called.marks called.clients c.history.ensures c.in_ok-push_raw_joined-in-Accepted.ensures
+    raw-join-accepted g c.args.self.now _ s c.args.client c.args.name.now _ _ c.history.result.now nm st called.answered called.marks called.clients c.history.ensures.entries c.in_ok-push_raw_joined-in-Accepted.ensures
 
 pub returns-in_ok-push_raw_not_joined-in_default : goal.returns-in_ok-push_raw_not_joined-in_default
 returns-in_ok-push_raw_not_joined-in_default c = λ g s nm st.

@@ -25,7 +25,7 @@ pub returns-in_ok-receive_own-in-Some : goal.returns-in_ok-receive_own-in-Some
 returns-in_ok-receive_own-in-Some c = λ g s nm st.
     let is : IsAt g.opening c.args.self.now.clients.items s.clients c.args.client c.in-Some.at = stands-placed g c.args.self.now s c.args.client c.place_of.result (Some c.in-Some.at) c.deref.result.now st c.place_of.ensures c.deref.ensures.value c.in-Some.is in
     let look = c.in_ok-look-in-Some.ensures in
-    let eh = c.history-history.ensures ∙ ap (λ p. history_of p.session) look.1 in
+    let eh = c.history-history.ensures.entries ∙ ap (λ p. history_of p.session) look.1 in
     recv-played g c.args.self.now _ s c.args.client c.args.count c.in-Some.at c.receive_own.new.own c.args.name.now _ _ nm st is (ap (λ p. p.session) look.1) (ap (λ p. p.marks) look.1 ∙ ap (λ k. c.args.self.now.marks ++ k ∷ []) look.0)
     (ap (λ p. slice_set p.clients.items c.in-Some.at c.receive_own.new.own) look.1)
     (

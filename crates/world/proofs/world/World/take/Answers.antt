@@ -2,6 +2,7 @@ use Rattle.std.proofs.Common.{refl, Some, None}
 use Rattle.std.specs.Vec.{with_item}
 use Rattle.session_ops.specs.declared.entry.Call.TheVariants.{Client as ByClient}
 use Rattle.session_core.specs.Session.{HasAnswered}
+use Rattle.session_core.proofs.Calls.{answered-over}
 use Rattle.client_sync.specs.Stands.{Mirrors, HasTaken}
 use Rattle.world.specs.declared.world.World.{World}
 use Rattle.world.specs.Plays.{IsHolderAt}
@@ -26,5 +27,5 @@ returns-in_ok-apply-in-Some-take_front c = λ w sound is.
     let last : World = record { session = c.apply.new.self; clients = with_item c.args.self.now.clients c.in-Some.place c.take_front.new.self } in
     let put : HasPut w c.args.self.now next c.args.number c.in-Some.place c.take_front.new.self = record { plays = is; apart = sound.apart; holder = p; session = refl; clients = refl } in
     let took : HasTaken w.opening p.here c.take_front.new.self (Some c.in-Some-take_front.op) = c.in-Some-take_front.ensures w.opening p.here before in
-    let done : HasAnswered w.opening 0 (ByClient c.args.number c.in-Some-take_front.op) c.args.self.now.session c.apply.new.self c.in_ok-apply-in-Some-take_front.field-0 = c.in_ok-apply-in-Some-take_front.ensures.ok w.opening is.session in
+    let done : HasAnswered w.opening 0 (ByClient c.args.number c.in-Some-take_front.op) c.args.self.now.session c.apply.new.self c.in_ok-apply-in-Some-take_front.field-0 = answered-over w.opening 0 (ByClient c.args.number c.in-Some-take_front.op) c.args.self.now.session c.apply.new.self c.in_ok-apply-in-Some-take_front.field-0 is.session c.in_ok-apply-in-Some-take_front.ensures.ok in
     take-plays w c.args.self.now next last c.args.number c.in-Some.place c.take_front.new.self c.in-Some-take_front.op took.0 c.in_ok-apply-in-Some-take_front.field-0 put took.1.0 took.1.1 done refl
