@@ -30,6 +30,7 @@ use Rattle.session_ops.proofs.Growing.{jobs-append}
 use Rattle.session_ops.proofs.Lists.{all-weaker, find-append-none}
 use Rattle.session_ops.proofs.Orderly.{orderly-state}
 use Rattle.session_ops.proofs.Shown.{IsFaithfulWork, IsJobBelow, faithful-work}
+use Rattle.session_core.specs.History.{Grows}
 use Rattle.session_core.specs.declared.job.PlainJob.{PlainJob}
 use Rattle.session_core.specs.declared.held.Held.{Held}
 use Rattle.session_core.specs.Jobs.{EndsOver, IsAlong, IsAlongTo, HasAfter, answer_by}
@@ -76,19 +77,19 @@ some-is : (o : Option ℕ) (c : ℕ) → o ≡ Some c → IsSome o
 some-is o c e = ap is_some e
 
 pub begun-session : (n0 : Parts) (s s' : Held) (by eval : ℕ) (lane : Lane) (w : Work) (job : PlainJob) → IsHeld n0 s → may_start s.book s.work lane ≡ Some job.cell → job.eval ≡ s.work.started + 1 → eval ≡ job.eval → IsAlongTo s.book job.cell job.source job.base
-    → history_of s' ≡ history_of s ++ entry_of by (Start lane) (Started eval job.cell) ∷ [] → s'.book ≡ s.book → s'.joined.items ≡ s.joined.items → s'.logs.items ≡ s.logs.items → w ≡ begun s.book lane job.eval job.cell s.work → s'.work ≡ swept s.book w → HasStarted n0 by lane s s' job
+    → Grows s.history (entry_of by (Start lane) (Started eval job.cell)) s'.history → s'.book ≡ s.book → s'.joined.items ≡ s.joined.items → s'.logs.items ≡ s.logs.items → w ≡ begun s.book lane job.eval job.cell s.work → s'.work ≡ swept s.book w → HasStarted n0 by lane s s' job
 begun-session n0 s s' by eval lane w job is may next same along grown eb ej el ew es =
     let st : State = state_of n0 s in
     let js : List Job = jobs n0 (history_of s) in
     let may' : may_start st.book st.work lane ≡ Some job.cell = subst (λ n. may_start n st.work lane ≡ Some job.cell) is.book (subst (λ v. may_start s.book v lane ≡ Some job.cell) is.work may) in
     let next' : job.eval ≡ st.work.started + 1 = next ∙ ap (λ (v : Work). v.started + 1) is.work in
     let e : Entry = entry_of by (Start lane) (Started job.eval job.cell) in
-    let grown' : history_of s' ≡ history_of s ++ e ∷ [] = subst (λ k. history_of s' ≡ history_of s ++ entry_of by (Start lane) (Started k job.cell) ∷ []) same grown in
+    let grown' : Grows s.history e s'.history = subst (λ k. Grows s.history (entry_of by (Start lane) (Started k job.cell)) s'.history) same grown in
     let right : Started job.eval job.cell ≡ reply st (Start lane) = ap (λ k. Started k job.cell) next' ∙ ap (start_reply st) (sym may') in
     let p : List Passed = unwrap_or (path st.book job.cell) [] in
     let j : Job = record { eval = job.eval; by = by; path = p } in
     let f : IsFaithfulWork st.work js = faithful-work n0 (history_of s) is.legal in
-    let js' : jobs n0 (history_of s') ≡ js ++ j ∷ [] = ap (jobs n0) grown' ∙ jobs-append n0 (history_of s) e in
+    let js' : jobs n0 (history_of s') ≡ js ++ j ∷ [] = ap (jobs n0) grown'.entries ∙ jobs-append n0 (history_of s) e in
     let here : path st.book job.cell ≡ Some along.present = subst (λ n. path n job.cell ≡ Some along.present) is.book along.path_is in
     let read : along.present ≡ p = sym (ap (λ o. unwrap_or o []) here) in
     let work : w ≡ begun st.book lane job.eval job.cell st.work = ew ∙ (ap (begun s.book lane job.eval job.cell) is.work ∙ ap (λ n. begun n lane job.eval job.cell st.work) is.book) in
@@ -127,7 +128,7 @@ after-answer st eval shown None e = refl
 after-answer st eval shown (Some r) e = ap (λ o. record st { work = stored shown st.work o }) e
 
 pub responded-session : (n0 : Parts) (s s' : Held) (by eval : ℕ) (runs : Bool) (w : Work) (shown : Shown) (ran : Ran) (job : PlainJob) → IsHeld n0 s → IsHandedOut n0 s by job → job.eval ≡ eval → MeansInCell (encode_utf8_all job.source) job.base ran → shown ≡ ran.shown → runs ≡ is_some (running_eval s.work eval)
-    → history_of s' ≡ history_of s ++ entry_of by (Respond eval shown) (answer_by eval runs) ∷ [] → s'.book ≡ s.book → s'.joined.items ≡ s.joined.items → s'.logs.items ≡ s.logs.items → w ≡ stored ran.shown s.work (running_eval s.work eval) → s'.work ≡ swept s.book w → HasAnswered n0 by (Respond eval ran.shown) s s' (answer_by eval runs)
+    → Grows s.history (entry_of by (Respond eval shown) (answer_by eval runs)) s'.history → s'.book ≡ s.book → s'.joined.items ≡ s.joined.items → s'.logs.items ≡ s.logs.items → w ≡ stored ran.shown s.work (running_eval s.work eval) → s'.work ≡ swept s.book w → HasAnswered n0 by (Respond eval ran.shown) s s' (answer_by eval runs)
 responded-session n0 s s' by eval runs w shown ran job is out number means same told grown eb ej el ew es =
     let st : State = state_of n0 s in
     let js : List Job = jobs n0 (history_of s) in
@@ -140,7 +141,7 @@ responded-session n0 s s' by eval runs w shown ran job is out number means same 
     let next_state : t ≡ after_call st (Respond eval ran.shown) (answer_by eval runs) = sym (ap (after_call st (Respond eval ran.shown)) right ∙ after-answer st eval ran.shown (running_eval st.work eval) refl) in
     let work : w ≡ t.work = ew ∙ ap (λ (v : Work). stored ran.shown v (running_eval v eval)) is.work in
     answered-session n0 s s' by (Respond eval ran.shown) (answer_by eval runs) is may right
-    (subst (λ x. history_of s' ≡ history_of s ++ entry_of by (Respond eval x) (answer_by eval runs) ∷ []) same grown)
+    (subst (λ x. Grows s.history (entry_of by (Respond eval x) (answer_by eval runs)) s'.history) same grown)
     (eb ∙ (is.book ∙ ap (λ (x : State). x.book) next_state))
     (ej ∙ (is.joined ∙ ap (λ (x : State). x.joined) next_state))
     (subst (λ x. AreLogs x s'.logs.items) next_state (subst (AreLogs t) (sym el) (logs-work st t.work s.logs.items is.logs)))

@@ -2,6 +2,7 @@ pub mod Basing
 pub mod Calls
 pub mod EvaluationLaws
 pub mod Handing
+pub mod HistoryLaws
 pub mod HonestDeltas
 pub mod Knowing
 pub mod LogLaws

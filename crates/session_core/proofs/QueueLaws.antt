@@ -17,6 +17,7 @@ use Rattle.session_ops.specs.declared.entry.Reply.{Reply}
 use Rattle.session_ops.specs.declared.entry.Reply.TheVariants.{Accepted, Refused}
 use Rattle.session_ops.specs.Numbers.{is_in}
 use Rattle.session_ops.specs.State.{State, reply, code_reply, queue_reply, queue_reply_by, cancel_reply, cancel_reply_by}
+use Rattle.session_core.specs.History.{Grows}
 use Rattle.session_core.specs.declared.held.Held.{Held}
 use Rattle.session_core.specs.Logs.{AreLogs}
 use Rattle.session_core.specs.Held.{IsHeld, HasAnswered, history_of, state_of}
@@ -83,7 +84,7 @@ cancel-accepted : (s : State) (client cell : ℕ) (b : Bool) → refused_by (if 
 cancel-accepted s client cell true e = cancel-of s cell (found cell (cells s.book)) e
 cancel-accepted s client cell false e = absurd (cc e)
 
-pub queued-session : (n0 : Parts) (s s' : Held) (by client cell : ℕ) (w : Work) → IsHeld n0 s → refused_by (reply (state_of n0 s) (Client client (Queue cell))) ≡ None → history_of s' ≡ history_of s ++ entry_of by (Client client (Queue cell)) Accepted ∷ []
+pub queued-session : (n0 : Parts) (s s' : Held) (by client cell : ℕ) (w : Work) → IsHeld n0 s → refused_by (reply (state_of n0 s) (Client client (Queue cell))) ≡ None → Grows s.history (entry_of by (Client client (Queue cell)) Accepted) s'.history
     → s'.book ≡ s.book → s'.joined.items ≡ s.joined.items → s'.logs.items ≡ s.logs.items → w ≡ asked cell s.work → s'.work ≡ swept s.book w → HasAnswered n0 by (Client client (Queue cell)) s s' Accepted
 queued-session n0 s s' by client cell w is none grown eb ej el ew es =
     let st : State = state_of n0 s in
@@ -95,7 +96,7 @@ queued-session n0 s s' by client cell w is none grown eb ej el ew es =
     (subst (AreLogs (record st { work = asked cell st.work })) (sym el) (logs-work st (asked cell st.work) s.logs.items is.logs))
     (es ∙ (ap (swept s.book) (ew ∙ ap (asked cell) is.work) ∙ ap (λ n. swept n (asked cell st.work)) is.book))
 
-pub cancelled-session : (n0 : Parts) (s s' : Held) (by client cell : ℕ) (w : Work) → IsHeld n0 s → refused_by (reply (state_of n0 s) (Client client (Cancel cell))) ≡ None → history_of s' ≡ history_of s ++ entry_of by (Client client (Cancel cell)) Accepted ∷ []
+pub cancelled-session : (n0 : Parts) (s s' : Held) (by client cell : ℕ) (w : Work) → IsHeld n0 s → refused_by (reply (state_of n0 s) (Client client (Cancel cell))) ≡ None → Grows s.history (entry_of by (Client client (Cancel cell)) Accepted) s'.history
     → s'.book ≡ s.book → s'.joined.items ≡ s.joined.items → s'.logs.items ≡ s.logs.items → w ≡ cancelled cell s.work → s'.work ≡ swept s.book w → HasAnswered n0 by (Client client (Cancel cell)) s s' Accepted
 cancelled-session n0 s s' by client cell w is none grown eb ej el ew es =
     let st : State = state_of n0 s in

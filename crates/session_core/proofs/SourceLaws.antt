@@ -34,6 +34,7 @@ use Rattle.revisions.specs.declared.source_log.SourceLog.{SourceLog}
 use Rattle.revisions.specs.Answer.{IsCause}
 use Rattle.revisions.specs.Log.{IsLog, HasTaken}
 use Rattle.revisions.specs.Source.{taking}
+use Rattle.session_core.specs.History.{Grows}
 use Rattle.session_core.specs.declared.logs.CellLog.{CellLog}
 use Rattle.session_core.specs.declared.held.Held.{Held}
 use Rattle.session_core.specs.Logs.{AreLogs, IsLogIn, place_in}
@@ -97,7 +98,7 @@ own-log s t cell x c l eb f named h =
 
 pub taken-session : (n0 : Parts) (s s' : Held) (by client cell base rev at : ℕ) (d kept : List Step) (c : Cell) (m : Move) (a : Taken) (old : SourceLog) (l' : CellLog) → IsHeld n0 s → is_in client s.joined.items ≡ true → found cell (cells s.book) ≡ Some c
     → IsMovedIn (state_of n0 s) cell c base d m → StandsFor (state_of n0 s) cell c.source old → HasTaken (source_in (state_of n0 s) cell c.source) client m.delta a l'.log → rev ≡ revision (state_of n0 s) cell + 1 → kept ≡ m.delta → Some at ≡ place_in cell s.logs.items → l'.cell ≡ cell
-    → history_of s' ≡ history_of s ++ entry_of by (Client client (Delta cell base d)) (Applied rev kept) ∷ [] → s'.book ≡ with_source cell m.text s.book → s'.joined.items ≡ s.joined.items → s'.logs.items ≡ set s.logs.items at l' → s'.work ≡ swept s'.book s.work
+    → Grows s.history (entry_of by (Client client (Delta cell base d)) (Applied rev kept)) s'.history → s'.book ≡ with_source cell m.text s.book → s'.joined.items ≡ s.joined.items → s'.logs.items ≡ set s.logs.items at l' → s'.work ≡ swept s'.book s.work
     → HasAnswered n0 by (Client client (Delta cell base d)) s s' (Applied rev a.delta)
 taken-session n0 s s' by client cell base rev at d kept c m a old l' is member is_found moved stands taken r k place named grown eb ej el ew =
     let st : State = state_of n0 s in
@@ -116,7 +117,7 @@ taken-session n0 s s' by client cell base rev at d kept c m a old l' is member i
     let logs : AreLogs t (set s.logs.items at l') = replaced st t cell at s.logs.items l' is.logs (stays-else st client cell base rev d a.delta) place named own (λ j l. live-before (moved_source cell a.delta) st.book j l) in
     answered-session n0 s s' by (Client client (Delta cell base d)) (Applied rev a.delta) is tt
     (sym (delta-answer n0 s client cell base d (Some c) is member there ∙ answered))
-    (subst (λ y. history_of s' ≡ history_of s ++ entry_of by (Client client (Delta cell base d)) y ∷ []) entry grown)
+    (subst (λ y. Grows s.history (entry_of by (Client client (Delta cell base d)) y) s'.history) entry grown)
     book
     (ej ∙ is.joined)
     (subst (AreLogs t) (sym el) logs)
@@ -132,7 +133,7 @@ stays-report s client cell rev = record {
 
 pub reported-session : (n0 : Parts) (s s' : Held) (by client cell rev at : ℕ) (c : Cell) (l' : CellLog) → IsHeld n0 s → is_in client s.joined.items ≡ true → found cell (cells (state_of n0 s).book) ≡ Some c → rev ≤ revision (state_of n0 s) cell
     → StandsFor (after_call (state_of n0 s) (Client client (Report cell rev)) Accepted) cell c.source l'.log → Some at ≡ place_in cell s.logs.items → l'.cell ≡ cell
-    → history_of s' ≡ history_of s ++ entry_of by (Client client (Report cell rev)) Accepted ∷ [] → s'.book ≡ s.book → s'.joined.items ≡ s.joined.items → s'.logs.items ≡ set s.logs.items at l' → s'.work ≡ s.work
+    → Grows s.history (entry_of by (Client client (Report cell rev)) Accepted) s'.history → s'.book ≡ s.book → s'.joined.items ≡ s.joined.items → s'.logs.items ≡ set s.logs.items at l' → s'.work ≡ s.work
     → HasAnswered n0 by (Client client (Report cell rev)) s s' Accepted
 reported-session n0 s s' by client cell rev at c l' is member there low stands place named grown eb ej el ew =
     let st : State = state_of n0 s in

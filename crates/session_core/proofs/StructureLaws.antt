@@ -38,6 +38,7 @@ use Rattle.session_ops.proofs.Orderly.{orderly-state}
 use Rattle.session_ops.proofs.Settled.{hopeful-state}
 use Rattle.session_ops.proofs.Structures.{HasChanged, made-new, stays-live}
 use Rattle.session_ops.proofs.Sweeps.{swept-same}
+use Rattle.session_core.specs.History.{Grows, KeepsEntries}
 use Rattle.session_core.specs.declared.logs.CellLog.{CellLog}
 use Rattle.session_core.specs.declared.held.Held.{Held}
 use Rattle.session_core.specs.Logs.{AreLogs, IsLogIn, IsFreshIn, IsNewLog, log_cell, log_lives}
@@ -379,7 +380,7 @@ member-change n0 s client op asked is e a = member-reply n0 s client op is e ∙
 
 -- the session once a change was made, and the evaluations were swept
 pub changed-session : (n0 : Parts) (s m s' : Held) (by client : ℕ) (op : Op) (asked : Change) (made : Changed) → IsHeld n0 s → is_in client s.joined.items ≡ true → change_of op ≡ Some asked → HasMade (state_of n0 s) asked m made
-    → history_of s' ≡ history_of s ++ entry_of by (Client client op) (made_reply made) ∷ [] → s'.book ≡ m.book → s'.joined.items ≡ m.joined.items → s'.logs.items ≡ m.logs.items → s'.work ≡ swept m.book m.work → HasAnswered n0 by (Client client op) s s' (made_reply made)
+    → Grows s.history (entry_of by (Client client op) (made_reply made)) s'.history → s'.book ≡ m.book → s'.joined.items ≡ m.joined.items → s'.logs.items ≡ m.logs.items → s'.work ≡ swept m.book m.work → HasAnswered n0 by (Client client op) s s' (made_reply made)
 changed-session n0 s m s' by client op asked made is member a done grown eb ej el ew =
     let st : State = state_of n0 s in
     let t : State = once_made st (Makes m.book made) in
@@ -406,7 +407,7 @@ told-cause n asked note.TooManySections why h k = ap attempt_reply h ∙ ap Refu
 told-cause n asked note.OutOfMemory why h k = absurd (cc k)
 
 pub unchanged-session : (n0 : Parts) (s m s' : Held) (by client : ℕ) (op : Op) (asked : Change) (fault : NoteError) (why : Refusal) → IsHeld n0 s → is_in client s.joined.items ≡ true → change_of op ≡ Some asked → HasNotMade (state_of n0 s) asked m fault → Some why ≡ told_change fault
-    → history_of s' ≡ history_of s ++ entry_of by (Client client op) (Refused why) ∷ [] → s'.book ≡ m.book → s'.joined.items ≡ m.joined.items → s'.logs.items ≡ m.logs.items → s'.work ≡ m.work → HasAnswered n0 by (Client client op) s s' (Refused why)
+    → Grows s.history (entry_of by (Client client op) (Refused why)) s'.history → s'.book ≡ m.book → s'.joined.items ≡ m.joined.items → s'.logs.items ≡ m.logs.items → s'.work ≡ m.work → HasAnswered n0 by (Client client op) s s' (Refused why)
 unchanged-session n0 s m s' by client op asked fault why is member a done told grown eb ej el ew =
     let st : State = state_of n0 s in
     let h : Holds st m = done.1 in
@@ -421,7 +422,7 @@ unchanged-session n0 s m s' by client op asked fault why is member a done told g
     })
 
 -- nothing is appended for want of memory
-pub unmade-before : (n0 : Parts) (s m s' : Held) (asked : Change) (fault : NoteError) → IsHeld n0 s → HasNotMade (state_of n0 s) asked m fault → history_of s' ≡ history_of s → s'.book ≡ m.book → s'.joined.items ≡ m.joined.items → s'.logs.items ≡ m.logs.items → s'.work ≡ m.work → IsAsBefore n0 s s'
+pub unmade-before : (n0 : Parts) (s m s' : Held) (asked : Change) (fault : NoteError) → IsHeld n0 s → HasNotMade (state_of n0 s) asked m fault → KeepsEntries s.history s'.history → s'.book ≡ m.book → s'.joined.items ≡ m.joined.items → s'.logs.items ≡ m.logs.items → s'.work ≡ m.work → IsAsBefore n0 s s'
 unmade-before n0 s m s' asked fault is done eh eb ej el ew =
     let h : Holds (state_of n0 s) m = done.1 in
     before-holding n0 s s' is eh (record { book = eb ∙ h.book; joined = ej ∙ h.joined; logs = subst (AreLogs (state_of n0 s)) (sym el) h.logs; work = ew ∙ h.work })

@@ -1,5 +1,5 @@
 -- What a session holds stands for the state that its history makes of the opening notebook.
-use Rattle.std.specs.Prelude.{◌≡◌, ℕ, List, [], ◌∷◌, ◌++◌, find, Option, Some, None}
+use Rattle.std.specs.Prelude.{◌≡◌, ◌≤◌, ℕ, List, [], ◌∷◌, ◌++◌, find, length, Option, Some, None}
 use Rattle.notebook.specs.declared.parts.Parts.{Parts}
 use Rattle.notebook.specs.declared.states.Lane.{Lane}
 use Rattle.notebook.specs.Rules.{IsNotebook}
@@ -17,18 +17,19 @@ use Rattle.session_ops.specs.State.{State, Job, state, reply, jobs, is_job, Lega
 use Rattle.session_core.specs.declared.job.PlainJob.{PlainJob}
 use Rattle.session_core.specs.declared.held.Held.{Held}
 use Rattle.session_core.specs.Jobs.{IsAlong}
+use Rattle.session_core.specs.History.{HasRoom, entries_in}
 use Rattle.session_core.specs.Logs.{AreLogs}
 use Rattle.session_core.specs.Session.{entry_of}
 
 -- all that was asked, with the answers
 abbrev pub history_of : Held → List Entry
-history_of s = s.history.items
+history_of s = entries_in s.history
 
 -- what its history makes of the notebook with which it opened
 abbrev pub state_of : Parts → Held → State
 state_of n0 s = state n0 (history_of s)
 
--- the history is legal, and what is held is what the history makes of the opening notebook
+-- the history is legal, what is held is what the history makes of the opening notebook, and there is room for the answer of each job that is out
 pub record IsHeld (n0 : Parts) (s : Held) : Type 0 where
   pub legal : Legal n0 (history_of s)
   pub opening : IsNotebook n0
@@ -36,6 +37,8 @@ pub record IsHeld (n0 : Parts) (s : Held) : Type 0 where
   pub joined : s.joined.items ≡ (state_of n0 s).joined
   pub logs : AreLogs (state_of n0 s) s.logs.items
   pub work : s.work ≡ (state_of n0 s).work
+  pub owed : length (jobs n0 (history_of s)) ≤ s.history.owed
+  pub room : HasRoom s.history.owed s.history
 
 -- the call was answered as the state says, and the history has just that entry more
 pub record HasAnswered (n0 : Parts) (by : ℕ) (call : Call) (old new : Held) (answer : Reply) : Type 0 where

@@ -1,4 +1,5 @@
 pub mod Held
+pub mod History
 pub mod Jobs
 pub mod Logs
 pub mod Session

@@ -11,9 +11,10 @@ ghost use Rattle.session_core.specs.declared.job.PlainJob.{PlainJob as AnyJob};
 ghost use Rattle.session_core.specs.Jobs.{IsAlongTo, answer_by};
 ghost use Rattle.session_core.specs.Held.{IsHeld, HasAnswered, HasTriedStart, LeavesState, IsAsBefore, IsHandedOut, state_of};
 
+use crate::evaluated::Evaluated;
 use crate::held::Held;
 use crate::job::{PlainJob, base_of};
-use ex_model::{Bindings, Ran};
+use ex_model::Bindings;
 use notebook::{Before, CellId, Lane};
 use session_ops::{Call, Entry, Reply};
 use std::alloc::AllocError;
@@ -52,49 +53,41 @@ impl Held {
         ensures ok { (n0 : Parts) → IsHeld n0 self.old → may_start self.old.book self.old.work lane ≡ Some cell → IsAlongTo self.old.book cell source base → IfOk result (λ job. HasTriedStart n0 by lane self.old self.new (Some job)) }
         ensures err { (n0 : Parts) → IsHeld n0 self.old → OnErr result (IsAsBefore n0 self.old self.new) }
     {
-        let Some(eval) = self.work.started.checked_add(1) else {
-            return Err(AllocError);
-        };
-        self.history.push(Entry {
+        self.history.make_room(2)?;
+        let eval = self.work.begin(self.alloc, &self.book, lane, cell)?;
+        self.work.sweep(&self.book);
+        self.history.append_start(Entry {
             by,
             call: Call::Start { lane },
             reply: Reply::Started { eval, cell },
-        })?;
-        match self.work.begin(self.alloc, &self.book, lane, cell) {
-            Ok(eval) => {
-                self.work.sweep(&self.book);
-                Ok(PlainJob {
-                    eval,
-                    cell,
-                    source,
-                    base,
-                })
-            }
-            Err(fault) => {
-                self.history.pop();
-                Err(fault)
-            }
-        }
+        });
+        Ok(PlainJob {
+            eval,
+            cell,
+            source,
+            base,
+        })
     }
 
     /// Answers an evaluation that was started under the same number and isn't answered yet, with what
     /// its source gives over its bindings within 200,000 steps: `Stored` where it still runs, and else
-    /// `Late`, and then the history alone changes. After want of memory nothing is appended.
-    pub(crate) fn respond(&mut self, by: u32, eval: u64, ran: Ran) -> Result<Reply, AllocError>
-        ensures ok { (n0 : Parts) (job : AnyJob) → IsHeld n0 self.old → IsHandedOut n0 self.old by job → job.eval ≡ eval → MeansInCell (encode_utf8_all job.source) job.base ran → IfOk result (HasAnswered n0 by (Respond eval ran.shown) self.old self.new) }
-        ensures late { (n0 : Parts) (job : AnyJob) → IsHeld n0 self.old → IsHandedOut n0 self.old by job → job.eval ≡ eval → MeansInCell (encode_utf8_all job.source) job.base ran → IfOk result (λ answer. ChangesNothing (Respond eval ran.shown) answer → LeavesState n0 self.old self.new) }
-        ensures err { (n0 : Parts) → IsHeld n0 self.old → OnErr result (IsAsBefore n0 self.old self.new) }
+    /// `Late`, and then the history alone changes. Takes no memory: its start kept room for the entry.
+    pub(crate) fn respond(&mut self, by: u32, eval: u64, ran: Evaluated) -> Reply
+        requires out { (n0 : Parts) × (job : AnyJob)
+            × IsHeld n0 self.old × IsHandedOut n0 self.old by job × (job.eval ≡ eval) }
+        ensures ok { (n0 : Parts) (job : AnyJob) → IsHeld n0 self.old → IsHandedOut n0 self.old by job → job.eval ≡ eval → MeansInCell (encode_utf8_all job.source) job.base ran → HasAnswered n0 by (Respond eval ran.shown) self.old self.new result }
+        ensures late { (n0 : Parts) (job : AnyJob) → IsHeld n0 self.old → IsHandedOut n0 self.old by job → job.eval ≡ eval → MeansInCell (encode_utf8_all job.source) job.base ran → ChangesNothing (Respond eval ran.shown) result → LeavesState n0 self.old self.new }
     {
-        let shown = ran.shown.copy()?;
         let runs = self.work.running(eval).is_some();
-        self.history.push(Entry {
+        let (shown, kept) = ran.twice();
+        self.work.store(eval, kept);
+        self.work.sweep(&self.book);
+        self.history.append_answer(Entry {
             by,
             call: Call::Respond { eval, shown },
             reply: answer(eval, runs),
-        })?;
-        self.work.store(eval, ran.shown);
-        self.work.sweep(&self.book);
-        Ok(answer(eval, runs))
+        });
+        answer(eval, runs)
     }
 }
 

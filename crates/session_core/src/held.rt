@@ -15,6 +15,7 @@ ghost use Rattle.session_core.specs.Held.{IsHeld, HasAnswered, LeavesState, IsAs
 ghost use Rattle.session_core.specs.Session.{IsWaiting, status_of, validity_of, shown_of, ready_lane};
 
 use crate::clients::{is_in, remove};
+use crate::history::History;
 use crate::logs::{CellLog, first_logs, leave_all, place_of, revisions, take_part};
 use crate::sources::Edit;
 use ex_model::Shown;
@@ -32,7 +33,7 @@ pub(crate) struct Held {
     pub(crate) logs: Vec<CellLog>,
     pub(crate) joined: Vec<u32>,
     pub(crate) work: Work,
-    pub(crate) history: Vec<Entry>,
+    pub(crate) history: History,
 }
 
 impl Held {
@@ -48,7 +49,7 @@ impl Held {
             logs,
             joined: Vec::new(alloc),
             work: Work::new(alloc),
-            history: Vec::new(alloc),
+            history: History::new(alloc),
         })
     }
 
@@ -98,21 +99,17 @@ impl Held {
         if is_in(client, self.joined.as_slice()) {
             return self.refuse(by, client, Op::Join, Refusal::AlreadyJoined);
         }
-        self.history.push(Entry {
+        self.history.make_room(1)?;
+        take_part(&mut self.joined, &mut self.logs, client)?;
+        self.history.append(Entry {
             by,
             call: Call::Client {
                 client,
                 op: Op::Join,
             },
             reply: Reply::Accepted,
-        })?;
-        match take_part(&mut self.joined, &mut self.logs, client) {
-            Ok(()) => Ok(Reply::Accepted),
-            Err(fault) => {
-                self.history.pop();
-                Err(fault)
-            }
-        }
+        });
+        Ok(Reply::Accepted)
     }
 
     /// Lets a client take part no more.
@@ -123,16 +120,17 @@ impl Held {
         if !is_in(client, self.joined.as_slice()) {
             return self.refuse(by, client, Op::Leave, Refusal::NotJoined);
         }
-        self.history.push(Entry {
+        self.history.make_room(1)?;
+        remove(&mut self.joined, client);
+        leave_all(&mut self.logs, client);
+        self.history.append(Entry {
             by,
             call: Call::Client {
                 client,
                 op: Op::Leave,
             },
             reply: Reply::Accepted,
-        })?;
-        remove(&mut self.joined, client);
-        leave_all(&mut self.logs, client);
+        });
         Ok(Reply::Accepted)
     }
 
@@ -147,11 +145,12 @@ impl Held {
         ensures ok { (n0 : Parts) → IsHeld n0 self.old → reply (state_of n0 self.old) (Client client op) ≡ Refused why → IfOk result (HasAnswered n0 by (Client client op) self.old self.new) }
         ensures err { (n0 : Parts) → IsHeld n0 self.old → OnErr result (IsAsBefore n0 self.old self.new) }
     {
-        self.history.push(Entry {
+        self.history.make_room(1)?;
+        self.history.append(Entry {
             by,
             call: Call::Client { client, op },
             reply: Reply::Refused(why),
-        })?;
+        });
         Ok(Reply::Refused(why))
     }
 
@@ -201,7 +200,7 @@ impl Held {
             work: _,
             history,
         } = self;
-        history
+        history.into_entries()
     }
 
     /// The present notebook. Takes no memory.

@@ -12,8 +12,10 @@
 #![tactic(auto)]
 
 mod clients;
+mod evaluated;
 mod evaluations;
 mod held;
+mod history;
 mod job;
 mod logs;
 mod queueing;
@@ -21,6 +23,7 @@ mod session;
 mod sources;
 mod structure;
 
+pub use evaluated::Evaluated;
 pub use job::{PlainJob, STEPS};
 pub use lanes::Row;
 pub use session::Session;

@@ -58,24 +58,18 @@ impl Held {
         ensures ok { (n0 : Parts) → IsHeld n0 self.old → refused_by (reply (state_of n0 self.old) (Client client (IsQueue cell))) ≡ None → IfOk result (HasAnswered n0 by (Client client (IsQueue cell)) self.old self.new) }
         ensures err { (n0 : Parts) → IsHeld n0 self.old → OnErr result (IsAsBefore n0 self.old self.new) }
     {
-        self.history.push(Entry {
+        self.history.make_room(1)?;
+        self.work.ask(cell)?;
+        self.work.sweep(&self.book);
+        self.history.append(Entry {
             by,
             call: Call::Client {
                 client,
                 op: Op::Queue { cell },
             },
             reply: Reply::Accepted,
-        })?;
-        match self.work.ask(cell) {
-            Ok(()) => {
-                self.work.sweep(&self.book);
-                Ok(Reply::Accepted)
-            }
-            Err(fault) => {
-                self.history.pop();
-                Err(fault)
-            }
-        }
+        });
+        Ok(Reply::Accepted)
     }
 
     /// Cancels a cell: it is neither queued nor runs any more.
@@ -120,16 +114,17 @@ impl Held {
         ensures ok { (n0 : Parts) → IsHeld n0 self.old → refused_by (reply (state_of n0 self.old) (Client client (IsCancel cell))) ≡ None → IfOk result (HasAnswered n0 by (Client client (IsCancel cell)) self.old self.new) }
         ensures err { (n0 : Parts) → IsHeld n0 self.old → OnErr result (IsAsBefore n0 self.old self.new) }
     {
-        self.history.push(Entry {
+        self.history.make_room(1)?;
+        self.work.cancel(cell);
+        self.work.sweep(&self.book);
+        self.history.append(Entry {
             by,
             call: Call::Client {
                 client,
                 op: Op::Cancel { cell },
             },
             reply: Reply::Accepted,
-        })?;
-        self.work.cancel(cell);
-        self.work.sweep(&self.book);
+        });
         Ok(Reply::Accepted)
     }
 }

@@ -12,9 +12,10 @@ ghost use Rattle.session_ops.specs.State.{ChangesNothing};
 ghost use Rattle.session_core.specs.declared.job.PlainJob.{PlainJob as AnyJob};
 ghost use Rattle.session_core.specs.Session.{IsSession, HasAnswered, HasTriedStart, IsHandedOut, StayOut, OthersStayOut, LeavesState, IsWaiting, history_of, state_of, status_of, validity_of, shown_of, ready_lane};
 
+use crate::evaluated::Evaluated;
 use crate::held::Held;
 use crate::job::PlainJob;
-use ex_model::{Ran, Shown};
+use ex_model::Shown;
 use lanes::Row;
 use notebook::{CellId, Lane, Notebook, Status, Validity};
 use session_ops::{Entry, Op, Reply, Snapshot};
@@ -81,18 +82,17 @@ impl Session {
 
     /// Answers an evaluation that was started under the same number and isn't answered yet, with what
     /// its source gives over its bindings within 200,000 steps: `Stored` where it still runs, and else
-    /// `Late`, and then the history alone changes. After want of memory the session is as it was, and
-    /// the evaluation may be answered again. Another evaluation that is out stays out.
-    pub fn respond(&mut self, by: u32, eval: u64, ran: Ran) -> Result<Reply, AllocError>
+    /// `Late`, and then the history alone changes. Takes no memory: its start kept room for the answer.
+    /// Another evaluation that is out stays out.
+    pub fn respond(&mut self, by: u32, eval: u64, ran: Evaluated) -> Reply
         requires { (job : AnyJob)
             × IsHandedOut self.old.opening self.old by job
             × (job.eval ≡ eval)
             × MeansInCell (encode_utf8_all job.source) job.base ran }
-        ensures ok { IfOk result
-            (HasAnswered self.old.opening by (Respond eval ran.shown) self.old self.new) }
-        ensures late { IfOk result (λ answer. ChangesNothing (Respond eval ran.shown) answer
-            → LeavesState self.old.opening self.old self.new) }
-        ensures err { OnErr result (self.new ≡ self.old) }
+        ensures ok { HasAnswered self.old.opening by (Respond eval ran.shown) self.old self.new
+            result }
+        ensures late { ChangesNothing (Respond eval ran.shown) result
+            → LeavesState self.old.opening self.old self.new }
         ensures out { OthersStayOut eval self.old self.new }
     {
         self.held.respond(by, eval, ran)

@@ -79,28 +79,22 @@ impl Held {
         };
         let source = moved.text().copy()?;
         let kept = moved.delta().copy(self.alloc)?;
-        self.history.push(Entry {
+        self.history.make_room(1)?;
+        let accepted = self.logs[at].log.take(self.alloc, client, moved)?;
+        self.book.set_source(cell, source);
+        self.work.sweep(&self.book);
+        self.history.append(Entry {
             by,
             call: Call::Client {
                 client,
                 op: Op::Delta { cell, base, delta },
             },
             reply: Reply::Applied { rev, delta: kept },
-        })?;
-        match self.logs[at].log.take(self.alloc, client, moved) {
-            Ok(accepted) => {
-                self.book.set_source(cell, source);
-                self.work.sweep(&self.book);
-                Ok(Reply::Applied {
-                    rev,
-                    delta: accepted.delta,
-                })
-            }
-            Err(fault) => {
-                self.history.pop();
-                Err(fault)
-            }
-        }
+        });
+        Ok(Reply::Applied {
+            rev,
+            delta: accepted.delta,
+        })
     }
 
     /// Refuses a client's delta.
@@ -150,20 +144,20 @@ impl Held {
         ensures ok { (n0 : Parts) → IsHeld n0 self.old → is_in client self.old.joined.items ≡ true → IfOk result (HasAnswered n0 by (Client client (IsReport cell rev)) self.old self.new) }
         ensures err { (n0 : Parts) → IsHeld n0 self.old → is_in client self.old.joined.items ≡ true → OnErr result (IsAsBefore n0 self.old self.new) }
     {
-        self.history.push(Entry {
-            by,
-            call: Call::Client {
-                client,
-                op: Op::Report { cell, rev },
-            },
-            reply: Reply::Accepted,
-        })?;
+        self.history.make_room(1)?;
         match self.logs[at].log.report(client, rev) {
-            Ok(()) => Ok(Reply::Accepted),
-            Err(fault) => {
-                self.history.pop();
-                self.refuse(by, client, Op::Report { cell, rev }, told_report(fault))
+            Ok(()) => {
+                self.history.append(Entry {
+                    by,
+                    call: Call::Client {
+                        client,
+                        op: Op::Report { cell, rev },
+                    },
+                    reply: Reply::Accepted,
+                });
+                Ok(Reply::Accepted)
             }
+            Err(fault) => self.refuse(by, client, Op::Report { cell, rev }, told_report(fault)),
         }
     }
 }

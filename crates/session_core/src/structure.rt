@@ -1,15 +1,14 @@
 //! Changes of the notebook's structure.
-ghost use Rattle.std.specs.Prelude.{◌≡◌, ◌++◌, ◌∷◌, [], ◌<◌, ◌^◌, List, Some, None, true, if◌then◌else◌, filter, find, IfOk, OnErr, MatchResult};
+ghost use Rattle.std.specs.Prelude.{◌≡◌, ◌<◌, ◌^◌, Some, None, true, if◌then◌else◌, filter, find, IfOk, OnErr, MatchResult};
 ghost use Rattle.std.specs.Option.{option_copied};
 ghost use Rattle.notebook.specs.declared.parts.Parts.{Parts as AnyParts};
 ghost use Rattle.notebook.specs.Flow.{is_cell};
 ghost use Rattle.session_ops.specs.declared.entry.Call.TheVariants.{Client};
-ghost use Rattle.session_ops.specs.declared.entry.Entry.{Entry as AnyEntry};
 ghost use Rattle.session_ops.specs.Orderly.{IsOrderly};
 ghost use Rattle.session_ops.specs.State.{State, made_reply};
 ghost use Rattle.session_ops.specs.Structure.{change_of};
 ghost use Rattle.session_core.specs.Logs.{log_lives};
-ghost use Rattle.session_core.specs.Held.{IsHeld, Holds, HasAnswered, HasMade, HasNotMade, IsAsBefore, history_of};
+ghost use Rattle.session_core.specs.Held.{IsHeld, Holds, HasAnswered, HasMade, HasNotMade, IsAsBefore};
 ghost use Rattle.session_core.specs.Session.{new_source, takes_away, told_change};
 
 use crate::clients::is_in;
@@ -36,26 +35,27 @@ impl Held {
         if !is_in(client, self.joined.as_slice()) {
             return self.refuse(by, client, op, Refusal::NotJoined);
         }
-        self.history.push(Entry {
-            by,
-            call: Call::Client { client, op },
-            reply: Reply::Accepted,
-        })?;
+        self.history.make_room(1)?;
         match self.make(change) {
             Ok(made) => {
                 self.work.sweep(&self.book);
-                answer_last(&mut self.history, reply_of(made));
+                self.history.append(Entry {
+                    by,
+                    call: Call::Client { client, op },
+                    reply: reply_of(made),
+                });
                 Ok(reply_of(made))
             }
             Err(fault) => match told(fault) {
                 Some(why) => {
-                    answer_last(&mut self.history, Reply::Refused(why));
+                    self.history.append(Entry {
+                        by,
+                        call: Call::Client { client, op },
+                        reply: Reply::Refused(why),
+                    });
                     Ok(Reply::Refused(why))
                 }
-                None => {
-                    self.history.pop();
-                    Err(AllocError)
-                }
+                None => Err(AllocError),
             },
         }
     }
@@ -63,7 +63,7 @@ impl Held {
     /// Makes a change: of the notebook, of the logs and of what is asked for. After a refusal, and after
     /// want of memory, all is as it was.
     fn make(&mut self, change: Change) -> Result<Changed, NoteError>
-        ensures history { history_of self.new ≡ history_of self.old }
+        ensures history { self.new.history ≡ self.old.history }
         ensures made { (s : State) → Holds s self.old → IsOrderly s → MatchResult result (HasMade s change self.new) (HasNotMade s change self.new) }
     {
         if !self.book.has_numbers() {
@@ -81,7 +81,7 @@ impl Held {
         requires cells { self.old.book.next_cell < 2 ^ 63 }
         requires sections { self.old.book.next_section < 2 ^ 63 }
         requires plain { new_source self.old.book change ≡ None }
-        ensures history { history_of self.new ≡ history_of self.old }
+        ensures history { self.new.history ≡ self.old.history }
         ensures made { (s : State) → Holds s self.old → IsOrderly s → MatchResult result (HasMade s change self.new) (HasNotMade s change self.new) }
     {
         let gone = takes_away(&change);
@@ -100,7 +100,7 @@ impl Held {
         requires cells { self.old.book.next_cell < 2 ^ 63 }
         requires sections { self.old.book.next_section < 2 ^ 63 }
         requires begins { new_source self.old.book change ≡ Some source }
-        ensures history { history_of self.new ≡ history_of self.old }
+        ensures history { self.new.history ≡ self.old.history }
         ensures made { (s : State) → Holds s self.old → IsOrderly s → MatchResult result (HasMade s change self.new) (HasNotMade s change self.new) }
     {
         let cell = self.book.parts().next_cell;
@@ -158,16 +158,6 @@ fn drop_gone(gone: bool, logs: &mut Vec<CellLog>, book: &Notebook)
 {
     if gone {
         drop_dead(logs, book);
-    }
-}
-
-/// Gives the last entry this reply.
-fn answer_last(history: &mut Vec<Entry>, reply: Reply)
-    ensures { (h : List AnyEntry) (e : AnyEntry) → history.old.items ≡ h ++ e ∷ [] → history.new.items ≡ h ++ record e { reply = reply } ∷ [] }
-{
-    let count = history.len();
-    if count > 0 {
-        history[count - 1].reply = reply;
     }
 }
 

@@ -1,10 +1,11 @@
 use Rattle.std.proofs.Common.{refl}
+use Rattle.session_core.proofs.HistoryLaws.{grown-after}
 use Rattle.session_core.proofs.SessionLaws.{untouched, on-err}
 use Rattle.session_core.proofs.QueueLaws.{cancelled-session}
 use Rattle.session_core.proofs.held.Held.take_cancelled.Goals as goal
 
-pub returns-in_err-push-clause-err : goal.returns-in_err-push-clause-err
-returns-in_err-push-clause-err c = λ n0 is. on-err _ _ (untouched n0 c.args.self.now _ is c.in_err-push.ensures.items refl refl refl refl)
+pub returns-in_err-make_room-clause-err : goal.returns-in_err-make_room-clause-err
+returns-in_err-make_room-clause-err c = λ n0 is. on-err _ _ (untouched n0 c.args.self.now _ is c.make_room.ensures.kept refl refl refl refl)
 
 pub returns-clause-ok : goal.returns-clause-ok
-returns-clause-ok c = λ n0 is none. cancelled-session n0 c.args.self.now _ c.args.by c.args.client c.args.cell c.cancel.new.self is none c.in_ok-push.ensures.items refl refl refl c.cancel.ensures c.sweep.ensures
+returns-clause-ok c = λ n0 is none. cancelled-session n0 c.args.self.now _ c.args.by c.args.client c.args.cell c.cancel.new.self is none (grown-after c.args.self.now.history c.make_room.new.self _ _ c.make_room.ensures.kept c.append.ensures) refl refl refl c.cancel.ensures c.sweep.ensures

@@ -1,0 +1,39 @@
+-- The history keeps room for the answers that are owed.
+use Rattle.std.specs.Prelude.{◌≡◌, ◌≤◌, ℕ, ◌+◌, ◌-◌, List, [], ◌∷◌, ◌++◌}
+use Rattle.std.specs.Vec.{vec_len, vec_capacity}
+use Rattle.session_ops.specs.declared.entry.Call.{Call}
+use Rattle.session_ops.specs.declared.entry.Call.TheVariants.{Start, Respond}
+use Rattle.session_ops.specs.declared.entry.Reply.{Reply}
+use Rattle.session_ops.specs.declared.entry.Reply.TheVariants.{Started}
+use Rattle.session_ops.specs.declared.entry.Entry.{Entry}
+use Rattle.session_core.specs.declared.history.History.{History}
+
+-- all that was appended
+abbrev pub entries_in : History → List Entry
+entries_in h = h.entries.items
+
+-- this many entries more take no memory
+abbrev pub HasRoom : ℕ → History → Type 0
+HasRoom more h = vec_len h.entries + more ≤ vec_capacity h.entries
+
+-- at most the room changed, and it didn't shrink
+pub record KeepsEntries (old new : History) : Type 0 where
+  pub entries : entries_in new ≡ entries_in old
+  pub owed : new.owed ≡ old.owed
+  pub room : HasRoom old.owed old → HasRoom new.owed new
+
+-- the entry was appended; so many answers are owed then, and there is room for them
+pub record Appends (old : History) (entry : Entry) (owed : ℕ) (new : History) : Type 0 where
+  pub entries : entries_in new ≡ entries_in old ++ entry ∷ []
+  pub owed : new.owed ≡ owed
+  pub room : HasRoom owed new
+
+-- how many answers are owed after an entry: a start owes one more, and an answer is owed no more
+abbrev pub owed_after : ℕ → Call → Reply → ℕ
+owed_after owed (Start lane) (Started eval cell) = owed + 1
+owed_after owed (Respond eval shown) answer = owed - 1
+owed_after owed call answer = owed
+
+-- the entry was appended, and what it owes is counted
+abbrev pub Grows : History → Entry → History → Type 0
+Grows old entry new = Appends old entry (owed_after old.owed entry.call entry.reply) new
