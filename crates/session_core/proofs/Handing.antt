@@ -49,7 +49,7 @@ pub handed-answered : (n0 : Parts) (s s' : Session) (owner by : ℕ) (job : Plai
 handed-answered n0 s s' owner by job call answer done other h = handed-stays n0 s s' owner job (entry_of by call answer) done.history other h
 
 -- the same over a session's own opening
-own-answered : (s s' : Session) (owner by : ℕ) (job : PlainJob) (call : Call) (answer : Reply) → HasAnswered s.opening by call s s' answer → NotAnswer job.eval call → IsHandedOut s.opening s owner job → IsHandedOut s'.opening s' owner job
+pub own-answered : (s s' : Session) (owner by : ℕ) (job : PlainJob) (call : Call) (answer : Reply) → HasAnswered s.opening by call s s' answer → NotAnswer job.eval call → IsHandedOut s.opening s owner job → IsHandedOut s'.opening s' owner job
 own-answered s s' owner by job call answer done other h = handed-own s.opening s' owner job done.session (handed-answered s.opening s s' owner by job call answer done other h)
 
 own-same : (s s' : Session) (owner : ℕ) (job : PlainJob) → s' ≡ s → IsHandedOut s.opening s owner job → IsHandedOut s'.opening s' owner job

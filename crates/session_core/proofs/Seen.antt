@@ -47,13 +47,19 @@ handed-held n0 h s by job e is = held-handed n0 h by job (subst (λ (t : Session
 seen-answered : (n0 : Parts) (by : ℕ) (call : Call) (h h' : Held) (answer : Reply) → held.HasAnswered n0 by call h h' answer → HasAnswered n0 by call (seen n0 h) (seen n0 h') answer
 seen-answered n0 by call h h' answer done = record { right = done.right; history = done.history; session = seen-session n0 h' done.session }
 
+pub one-answered-seen : (n0 : Parts) (by : ℕ) (call : Call) (h h' : Held) (s : Session) (answer : Reply) → seen n0 h ≡ s → held.HasAnswered n0 by call h h' answer → HasAnswered s.opening by call s (seen n0 h') answer
+one-answered-seen n0 by call h h' s answer e done = subst (λ (t : Session). HasAnswered t.opening by call t (seen n0 h') answer) e (seen-answered n0 by call h h' answer done)
+
 pub answered-seen : {E : Type 0} (n0 : Parts) (by : ℕ) (call : Call) (h h' : Held) (s : Session) (r : Result Reply E) → seen n0 h ≡ s → IfOk r (held.HasAnswered n0 by call h h') → IfOk r (HasAnswered s.opening by call s (seen n0 h'))
-answered-seen n0 by call h h' s (Ok answer) e done = subst (λ (t : Session). HasAnswered t.opening by call t (seen n0 h') answer) e (seen-answered n0 by call h h' answer done)
+answered-seen n0 by call h h' s (Ok answer) e done = one-answered-seen n0 by call h h' s answer e done
 answered-seen n0 by call h h' s (Err x) e done = tt
 
 -- an answer that leaves the state
+pub one-left-seen : (n0 : Parts) (h h' : Held) (s : Session) → seen n0 h ≡ s → held.LeavesState n0 h h' → LeavesState s.opening s (seen n0 h')
+one-left-seen n0 h h' s e same = subst (λ (t : Session). LeavesState t.opening t (seen n0 h')) e same
+
 pub left-seen : {E : Type 0} (n0 : Parts) (call : Call) (h h' : Held) (s : Session) (r : Result Reply E) → seen n0 h ≡ s → IfOk r (λ answer. ChangesNothing call answer → held.LeavesState n0 h h') → IfOk r (λ answer. ChangesNothing call answer → LeavesState s.opening s (seen n0 h'))
-left-seen n0 call h h' s (Ok answer) e same = λ k. subst (λ (t : Session). LeavesState t.opening t (seen n0 h')) e (same k)
+left-seen n0 call h h' s (Ok answer) e same = λ k. one-left-seen n0 h h' s e (same k)
 left-seen n0 call h h' s (Err x) e same = tt
 
 -- nothing was appended

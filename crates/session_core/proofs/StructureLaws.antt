@@ -58,25 +58,6 @@ found-find id (c ∷ cs) = ap (λ o. if c.id == id then Some c else o) (found-fi
 pub restores : (n : Parts) (asked : Change) (cell section index : ℕ) (o : Option Cell) → asked ≡ RestoreCell cell section index → o ≡ find (is_cell cell) n.bin → new_source n asked ≡ first_of (restored n.next_cell o)
 restores n asked cell section index o a e = ap (new_source n) a ∙ ap (λ x. first_of (restored n.next_cell x)) (sym (found-find cell n.bin) ∙ sym e)
 
--- the last entry with another reply
-last-at : {X : Type 0} (xs : List X) (x y : X) → get_or (xs ++ x ∷ []) (length xs) y ≡ x
-last-at [] x y = refl
-last-at (z ∷ xs) x y = last-at xs x y
-
-last-set : {X : Type 0} (xs : List X) (x y : X) → set (xs ++ x ∷ []) (length xs) y ≡ xs ++ y ∷ []
-last-set [] x y = refl
-last-set (z ∷ xs) x y = ap (λ ys. z ∷ ys) (last-set xs x y)
-
-abbrev answered_so : Reply → Entry → Entry
-answered_so r e = record { by = e.by; call = e.call; reply = r }
-
-pub answered-last : (es h : List Entry) (e m : Entry) (n : ℕ) (r : Reply) → es ≡ h ++ e ∷ [] → n ≡ length es → m ≡ get_or es (n - 1) m → set es (n - 1) (record { by = m.by; call = m.call; reply = r }) ≡ h ++ record { by = e.by; call = e.call; reply = r } ∷ []
-answered-last es h e m n r put len at =
-    let all : length es ≡ length h + 1 = ap length put ∙ length-append h (e ∷ []) in
-    let place : n - 1 ≡ length h = omega (arith, len, all) in
-    let same : m ≡ e = at ∙ (ap (λ k. get_or es k m) place ∙ (ap (λ xs. get_or xs (length h) m) put ∙ last-at h e m)) in
-    ap (λ k. set es k (answered_so r m)) place ∙ (ap (λ xs. set xs (length h) (answered_so r m)) put ∙ (ap (λ x. set (h ++ e ∷ []) (length h) (answered_so r x)) same ∙ last-set h e (answered_so r e)))
-
 -- a cell that lives on keeps its log
 log-made : (s : State) (asked : Change) (n' : Parts) (what : Changed) (l : CellLog) → IsOrderly s → change s.book asked ≡ Makes n' what → IsLogIn s l → log_lives n' l ≡ true → IsLogIn (once_made s (Makes n' what)) l
 log-made s asked n' what l o e h live = record {

@@ -23,10 +23,10 @@ pub record KeepsEntries (old new : History) : Type 0 where
   pub room : HasRoom old.owed old → HasRoom new.owed new
 
 -- the entry was appended; so many answers are owed then, and there is room for them
-pub record Appends (old : History) (entry : Entry) (owed : ℕ) (new : History) : Type 0 where
+pub record Appends (old : History) (entry : Entry) (count : ℕ) (new : History) : Type 0 where
   pub entries : entries_in new ≡ entries_in old ++ entry ∷ []
-  pub owed : new.owed ≡ owed
-  pub room : HasRoom owed new
+  pub owed : new.owed ≡ count
+  pub room : HasRoom count new
 
 -- how many answers are owed after an entry: a start owes one more, and an answer is owed no more
 abbrev pub owed_after : ℕ → Call → Reply → ℕ

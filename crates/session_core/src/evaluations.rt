@@ -73,7 +73,7 @@ impl Held {
     /// its source gives over its bindings within 200,000 steps: `Stored` where it still runs, and else
     /// `Late`, and then the history alone changes. Takes no memory: its start kept room for the entry.
     pub(crate) fn respond(&mut self, by: u32, eval: u64, ran: Evaluated) -> Reply
-        requires out { (n0 : Parts) × (job : AnyJob)
+        requires { (n0 : Parts) × (job : AnyJob)
             × IsHeld n0 self.old × IsHandedOut n0 self.old by job × (job.eval ≡ eval) }
         ensures ok { (n0 : Parts) (job : AnyJob) → IsHeld n0 self.old → IsHandedOut n0 self.old by job → job.eval ≡ eval → MeansInCell (encode_utf8_all job.source) job.base ran → HasAnswered n0 by (Respond eval ran.shown) self.old self.new result }
         ensures late { (n0 : Parts) (job : AnyJob) → IsHeld n0 self.old → IsHandedOut n0 self.old by job → job.eval ≡ eval → MeansInCell (encode_utf8_all job.source) job.base ran → ChangesNothing (Respond eval ran.shown) result → LeavesState n0 self.old self.new }

@@ -15,16 +15,16 @@ returns-then-is_in-clause-ok c = λ n0 is.
 pub returns-in_err-make_room-clause-err : goal.returns-in_err-make_room-clause-err
 returns-in_err-make_room-clause-err c = λ n0 is. on-err _ _ (untouched n0 c.args.self.now _ is c.make_room.ensures.kept refl refl refl refl)
 
-pub returns-in-Ok-clause-ok : goal.returns-in-Ok-clause-ok
-returns-in-Ok-clause-ok c = λ n0 is.
+pub returns-clause-ok : goal.returns-clause-ok
+returns-clause-ok c = λ n0 is.
     let s = c.args.self.now in
     let e : is_in c.args.client s.joined.items ≡ false = subst (λ js. is_in c.args.client js ≡ false) c.as_slice.ensures.value (sym c.if-is_in.ensures) in
-    joined-session n0 s _ c.args.by c.args.client is e (grown-after s.history c.make_room.new.self _ _ c.make_room.ensures.kept c.append.ensures) refl c.in-Ok.ensures.joined_ok c.in-Ok.ensures.cells (c.in-Ok.ensures.logs_ok (state_of n0 s) (member-of n0 s c.args.client false is e) is.logs.logs) refl
+    joined-session n0 s _ c.args.by c.args.client is e (grown-after s.history c.make_room.new.self _ _ c.make_room.ensures.kept c.append.ensures) refl c.in_ok-take_part.ensures.joined_ok c.in_ok-take_part.ensures.cells (c.in_ok-take_part.ensures.logs_ok (state_of n0 s) (member-of n0 s c.args.client false is e) is.logs.logs) refl
 
-pub returns-in-Err-clause-err : goal.returns-in-Err-clause-err
-returns-in-Err-clause-err c = λ n0 is.
+pub returns-in_err-take_part-clause-err : goal.returns-in_err-take_part-clause-err
+returns-in_err-take_part-clause-err c = λ n0 is.
     let s = c.args.self.now in
     let e : is_in c.args.client s.joined.items ≡ false = subst (λ js. is_in c.args.client js ≡ false) c.as_slice.ensures.value (sym c.if-is_in.ensures) in
     let st = state_of n0 s in
-    as-before n0 s _ is c.make_room.ensures.kept refl c.in-Err.ensures.joined_err
-    (logs-kept st st s.logs.items _ is.logs refl c.in-Err.ensures.cells (c.in-Err.ensures.logs_err st (member-of n0 s c.args.client false is e) is.logs.logs)) refl
+    on-err _ _ (as-before n0 s _ is c.make_room.ensures.kept refl c.in_err-take_part.ensures.joined_err
+    (logs-kept st st s.logs.items _ is.logs refl c.in_err-take_part.ensures.cells (c.in_err-take_part.ensures.logs_err st (member-of n0 s c.args.client false is e) is.logs.logs)) refl)

@@ -1,8 +1,10 @@
-use Rattle.std.proofs.Common.{◌≡◌, ◌++◌, ◌∷◌, [], true, false, refl, sym, subst, ap, ◌∙◌}
+use Rattle.std.proofs.Common.{◌≡◌, ◌+◌, true, false, refl, sym, subst}
 use Rattle.session_ops.specs.declared.entry.Call.TheVariants.{Client}
-use Rattle.session_ops.specs.declared.entry.Reply.TheVariants.{Accepted}
 use Rattle.session_ops.specs.Numbers.{is_in}
-use Rattle.session_core.specs.Held.{HasAnswered, history_of, state_of}
+use Rattle.session_ops.specs.State.{made_reply}
+use Rattle.session_core.specs.declared.history.History.{History}
+use Rattle.session_core.specs.History.{Appends, HasRoom, KeepsEntries}
+use Rattle.session_core.specs.Held.{HasAnswered, state_of}
 use Rattle.session_core.specs.Session.{entry_of}
 use Rattle.session_core.proofs.HistoryLaws.{grown-after}
 use Rattle.session_core.proofs.SessionLaws.{untouched, on-err}
@@ -18,28 +20,36 @@ returns-then-not-is_in-clause-ok c = λ n0 is.
 pub returns-in_err-make_room-clause-err : goal.returns-in_err-make_room-clause-err
 returns-in_err-make_room-clause-err c = λ n0 is. on-err _ _ (untouched n0 c.args.self.now _ is c.make_room.ensures.kept refl refl refl refl)
 
+pub append-requires : goal.append-requires
+append-requires c = subst (λ (h : History). HasRoom (h.owed + 1) h) (sym c.in-Ok.ensures.history) c.in_ok-make_room.ensures.room
+
+pub append-in-Some-requires : goal.append-in-Some-requires
+append-in-Some-requires c = subst (λ (h : History). HasRoom (h.owed + 1) h) (sym c.in-Err.ensures.history) c.in_ok-make_room.ensures.room
+
 pub returns-in-Ok-clause-ok : goal.returns-in-Ok-clause-ok
 returns-in-Ok-clause-ok c = λ n0 is.
     let s = c.args.self.now in
-    let h = history_of s in
+    let m = c.make.new.self in
     let call = Client c.args.client c.args.op in
     let member : is_in c.args.client s.joined.items ≡ true = subst (λ js. is_in c.args.client js ≡ true) c.as_slice.ensures.value (sym c.if-not-is_in.ensures) in
     let done = c.in-Ok.ensures.made (state_of n0 s) (holds-pushed n0 s _ is refl refl refl refl) (orderly-session n0 s is) in
-    let grown = c.answer_last.ensures h (entry_of c.args.by call Accepted) (c.in-Ok.ensures.history ∙ (grown-after s.history c.make_room.new.self _ _ c.make_room.ensures.kept c.append.ensures)) ∙ ap (λ r. h ++ entry_of c.args.by call r ∷ []) c.reply_of.ensures in
-    subst (HasAnswered n0 c.args.by call s _) (sym c.reply_of-in-Ok.ensures) (changed-session n0 s c.make.new.self _ c.args.by c.args.client c.args.op c.args.change c.in-Ok.made is member c.requires done grown refl refl refl c.sweep.ensures)
+    let kept : KeepsEntries s.history m.history = subst (KeepsEntries s.history) (sym c.in-Ok.ensures.history) c.make_room.ensures.kept in
+    let grown = grown-after s.history m.history _ (entry_of c.args.by call (made_reply c.in-Ok.made)) kept (subst (λ r. Appends m.history (entry_of c.args.by call r) m.history.owed c.append.new.self) c.reply_of.ensures c.append.ensures) in
+    subst (HasAnswered n0 c.args.by call s _) (sym c.reply_of-in-Ok.ensures) (changed-session n0 s m _ c.args.by c.args.client c.args.op c.args.change c.in-Ok.made is member c.requires done grown refl refl refl c.sweep.ensures)
 
 pub returns-in-Some-clause-ok : goal.returns-in-Some-clause-ok
 returns-in-Some-clause-ok c = λ n0 is.
     let s = c.args.self.now in
+    let m = c.make.new.self in
     let member : is_in c.args.client s.joined.items ≡ true = subst (λ js. is_in c.args.client js ≡ true) c.as_slice.ensures.value (sym c.if-not-is_in.ensures) in
     let done = c.in-Err.ensures.made (state_of n0 s) (holds-pushed n0 s _ is refl refl refl refl) (orderly-session n0 s is) in
-    unchanged-session n0 s c.make.new.self _ c.args.by c.args.client c.args.op c.args.change c.in-Err.fault c.in-Some.why is member c.requires done c.in-Some.ensures
-    (c.answer_last-in-Some.ensures (history_of s) (entry_of c.args.by (Client c.args.client c.args.op) Accepted) (c.in-Err.ensures.history ∙ (grown-after s.history c.make_room.new.self _ _ c.make_room.ensures.kept c.append.ensures)))
+    let kept : KeepsEntries s.history m.history = subst (KeepsEntries s.history) (sym c.in-Err.ensures.history) c.make_room.ensures.kept in
+    unchanged-session n0 s m _ c.args.by c.args.client c.args.op c.args.change c.in-Err.fault c.in-Some.why is member c.requires done c.in-Some.ensures
+    (grown-after s.history m.history _ _ kept c.append-in-Some.ensures)
     refl refl refl refl
 
 pub returns-in-None-clause-err : goal.returns-in-None-clause-err
 returns-in-None-clause-err c = λ n0 is.
     let s = c.args.self.now in
-    let m = c.make.new.self in
     let done = c.in-Err.ensures.made (state_of n0 s) (holds-pushed n0 s _ is refl refl refl refl) (orderly-session n0 s is) in
-    unmade-before n0 s m _ c.args.change c.in-Err.fault is done c.make_room.ensures.kept refl refl refl refl
+    unmade-before n0 s c.make.new.self _ c.args.change c.in-Err.fault is done (subst (KeepsEntries s.history) (sym c.in-Err.ensures.history) c.make_room.ensures.kept) refl refl refl refl

@@ -12,5 +12,5 @@ returns c = λ n0 is.
     record {
       book = c.in_ok-copy.ensures ∙ is.book;
       revs = has-revisions st _ _ logs (c.in_ok-revisions.ensures st logs.logs);
-      cursor = c.len.ensures ∙ s.history.ok.0;
+      cursor = c.len.ensures;
     }

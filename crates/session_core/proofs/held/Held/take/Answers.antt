@@ -19,8 +19,8 @@ index_mut-requires c = omega (arith, place-within c.args.edit.cell c.args.at c.a
 pub returns-in_err-make_room-clause-err : goal.returns-in_err-make_room-clause-err
 returns-in_err-make_room-clause-err c = λ n0 x is member f m. on-err _ _ (untouched n0 c.args.self.now _ is c.make_room.ensures.kept refl refl refl refl)
 
-pub returns-in-Ok-clause-ok : goal.returns-in-Ok-clause-ok
-returns-in-Ok-clause-ok c = λ n0 x is member f m.
+pub returns-clause-ok : goal.returns-clause-ok
+returns-clause-ok c = λ n0 x is member f m.
     let s = c.args.self.now in
     let st = state_of n0 s in
     let e = c.args.edit in
@@ -32,12 +32,12 @@ returns-in-Ok-clause-ok c = λ n0 x is member f m.
     let l : CellLog = record { cell = c.index_mut.result.now.cell; log = c.take.new.self } in
     let next : c.in-Some.rev ≡ c.rev.result + 1 = search arith in
     let rev : c.in-Some.rev ≡ revision st e.cell + 1 = next ∙ ap (λ k. k + 1) (c.rev.ensures (source_in st e.cell x.source) stands_read.log_of) in
-    taken-session n0 s _ c.args.by e.client e.cell e.base c.in-Some.rev c.args.at e.delta c.in_ok-kept.kept x c.args.moved c.in-Ok.accepted _ l is member f m stands
-    (c.in-Ok.ensures.ok (source_in st e.cell x.source) stands.log_of m.moves) rev (c.in_ok-kept.ensures ∙ c.delta-2.ensures) c.requires own.named (grown-after s.history c.make_room.new.self _ _ c.make_room.ensures.kept c.append.ensures)
+    taken-session n0 s _ c.args.by e.client e.cell e.base c.in-Some.rev c.args.at e.delta c.in_ok-kept.kept x c.args.moved c.in_ok-accepted.accepted _ l is member f m stands
+    (c.in_ok-accepted.ensures.ok (source_in st e.cell x.source) stands.log_of m.moves) rev (c.in_ok-kept.ensures ∙ c.delta-2.ensures) c.requires own.named (grown-after s.history c.make_room.new.self _ _ c.make_room.ensures.kept c.append.ensures)
     (subst (λ t. c.set_source.new.self ≡ with_source e.cell t s.book) (c.in_ok-source.ensures ∙ c.text.ensures) c.set_source.ensures.set) refl refl c.sweep.ensures
 
-pub returns-in-Err-clause-err : goal.returns-in-Err-clause-err
-returns-in-Err-clause-err c = λ n0 x is member f m.
+pub returns-in_err-accepted-clause-err : goal.returns-in_err-accepted-clause-err
+returns-in_err-accepted-clause-err c = λ n0 x is member f m.
     let s = c.args.self.now in
     let st = state_of n0 s in
     let e = c.args.edit in
@@ -46,5 +46,5 @@ returns-in-Err-clause-err c = λ n0 x is member f m.
     let stands : StandsFor st e.cell x.source c.index_mut.result.now.log = same-owner st e.cell x c.index_mut.result.now there own.named own.is in
     let stands : StandsFor st e.cell x.source c.index_mut.result.now.log = same-owner st e.cell x c.index_mut.result.now there own.named own.is in
     let l : CellLog = record { cell = c.index_mut.result.now.cell; log = c.take.new.self } in
-    as-before n0 s _ is c.make_room.ensures.kept refl refl
-    (put-back st e.cell c.args.at x s.logs.items l is.logs c.requires there own.named (subst (StandsFor st e.cell x.source) (sym c.in-Err.ensures.err) stands)) refl
+    on-err _ _ (as-before n0 s _ is c.make_room.ensures.kept refl refl
+    (put-back st e.cell c.args.at x s.logs.items l is.logs c.requires there own.named (subst (StandsFor st e.cell x.source) (sym c.in_err-accepted.ensures.err) stands)) refl)
