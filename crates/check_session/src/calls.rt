@@ -11,7 +11,7 @@ use ex_machine::run;
 use ex_model::Ran;
 use notebook::{CellId, Lane, Status, Validity};
 use script::{ScriptLine, read_script};
-use session_core::{PlainJob, STEPS, Session};
+use session_core::{Evaluated, PlainJob, Session, STEPS};
 use session_ops::{Op, Refusal, Reply};
 use std::alloc::Global;
 
@@ -307,7 +307,8 @@ fn respond(session: &mut Session, job: &PlainJob, ran: Ran) -> Option<bool>
     requires out { IsHandedOut session.old.opening session.old 1 job.now }
     requires means { MeansInCell (encode_utf8_all job.now.source) job.now.base ran }
 {
-    let reply = session.respond(EVALUATOR, job.eval, ran).ok()?;
+    let ran = Evaluated::of(ran).ok()?;
+    let reply = session.respond(EVALUATOR, job.eval, ran);
     Some(matches!(reply, Reply::Stored { .. }))
 }
 

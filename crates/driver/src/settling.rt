@@ -5,7 +5,7 @@ ghost use Rattle.session_core.specs.Session.{IsSession, IsHandedOut};
 ghost use Rattle.driver.specs.Settling.{HasGoneOn, HasResponded, HasSettled};
 
 use ex_machine::run;
-use session_core::{PlainJob, STEPS, Session};
+use session_core::{Evaluated, PlainJob, Session, STEPS};
 use std::alloc::{AllocError, Global};
 use std::sync::Wait;
 
@@ -47,6 +47,6 @@ fn answer(alloc: Global, session: &mut Session, by: u32, job: PlainJob) -> Resul
     ensures { (n0 : Parts) → IsSession n0 session.old → OnOk result (HasResponded n0 by job.eval session.old session.new) }
 {
     let ran = run(alloc, job.source.as_str(), &job.base, STEPS)?;
-    session.respond(by, job.eval, ran)?;
+    session.respond(by, job.eval, Evaluated::of(ran)?);
     Ok(())
 }
