@@ -49,8 +49,8 @@ impl History {
         requires { HasRoom (self.old.owed + 2) self.old }
         ensures { Appends self.old entry (self.old.owed + 1) self.new }
     {
-        self.append(entry);
         self.owed += 1;
+        self.append(entry);
     }
 
     /// Appends an answer that is owed, for which there is room. Takes no memory.
