@@ -1,5 +1,5 @@
 -- What a session holds stands for the state that its history makes of the opening notebook.
-use Rattle.std.specs.Prelude.{◌≡◌, ◌≤◌, ℕ, List, [], ◌∷◌, ◌++◌, find, length, Option, Some, None}
+use Rattle.std.specs.Prelude.{◌≡◌, ◌≤◌, ℕ, List, [], ◌∷◌, ◌++◌, find, length, true, Option, Some, None, Result, IfOk, OnErr, MatchResult}
 use Rattle.notebook.specs.declared.parts.Parts.{Parts}
 use Rattle.notebook.specs.declared.states.Lane.{Lane}
 use Rattle.notebook.specs.Rules.{IsNotebook}
@@ -9,17 +9,21 @@ use Rattle.notebook.specs.declared.change.NoteError.{NoteError}
 use Rattle.notebook.specs.Change.{Makes, change, Refuses}
 use Rattle.lanes.specs.Work.{may_start}
 use Rattle.session_ops.specs.declared.entry.Call.{Call}
-use Rattle.session_ops.specs.declared.entry.Call.TheVariants.{Start}
+use Rattle.session_ops.specs.declared.entry.Call.TheVariants.{Client, Start}
+use Rattle.session_ops.specs.declared.entry.Op.{Op}
+use Rattle.session_ops.specs.declared.entry.Refusal.{Refusal}
 use Rattle.session_ops.specs.declared.entry.Reply.{Reply}
-use Rattle.session_ops.specs.declared.entry.Reply.TheVariants.{Started}
+use Rattle.session_ops.specs.declared.entry.Reply.TheVariants.{Started, Refused}
 use Rattle.session_ops.specs.declared.entry.Entry.{Entry}
+use Rattle.session_ops.specs.Numbers.{is_in}
+use Rattle.session_ops.specs.Orderly.{IsOrderly}
 use Rattle.session_ops.specs.State.{State, Job, state, reply, jobs, is_job, Legal, once_made}
 use Rattle.session_core.specs.declared.job.PlainJob.{PlainJob}
 use Rattle.session_core.specs.declared.held.Held.{Held}
 use Rattle.session_core.specs.Jobs.{IsAlong}
 use Rattle.session_core.specs.History.{HasRoom, entries_in}
 use Rattle.session_core.specs.Logs.{AreLogs}
-use Rattle.session_core.specs.Session.{entry_of}
+use Rattle.session_core.specs.Session.{entry_of, refused_by}
 
 -- all that was asked, with the answers
 abbrev pub history_of : Held → List Entry
@@ -73,6 +77,30 @@ abbrev pub HasTriedStart : Parts → ℕ → Lane → Held → Held → Option P
 HasTriedStart n0 by lane old new None = (may_start (state_of n0 old).book (state_of n0 old).work lane ≡ None) × IsAsBefore n0 old new
 HasTriedStart n0 by lane old new (Some job) = HasStarted n0 by lane old new job
 
+-- whatever the notebook with which it opened: the call is answered as the state says, and one entry more is appended
+abbrev pub Answers : {E : Type 0} → ℕ → Call → Held → Held → Result Reply E → Type 0
+Answers by call old new result = (n0 : Parts) → IsHeld n0 old → IfOk result (HasAnswered n0 by call old new)
+
+-- the same, where the state's reply refuses for this cause
+abbrev pub AnswersRefused : {E : Type 0} → ℕ → Call → Refusal → Held → Held → Result Reply E → Type 0
+AnswersRefused by call why old new result = (n0 : Parts) → IsHeld n0 old → reply (state_of n0 old) call ≡ Refused why → IfOk result (HasAnswered n0 by call old new)
+
+-- the same, where the state's reply doesn't refuse
+abbrev pub AnswersAccepted : {E : Type 0} → ℕ → Call → Held → Held → Result Reply E → Type 0
+AnswersAccepted by call old new result = (n0 : Parts) → IsHeld n0 old → refused_by (reply (state_of n0 old) call) ≡ None → IfOk result (HasAnswered n0 by call old new)
+
+-- the same, where this client has joined
+abbrev pub AnswersMember : {E : Type 0} → ℕ → ℕ → Op → Held → Held → Result Reply E → Type 0
+AnswersMember by client op old new result = (n0 : Parts) → IsHeld n0 old → is_in client old.joined.items ≡ true → IfOk result (HasAnswered n0 by (Client client op) old new)
+
+-- after want of memory nothing was appended
+abbrev pub KeepsAll : {A E : Type 0} → Held → Held → Result A E → Type 0
+KeepsAll old new result = (n0 : Parts) → IsHeld n0 old → OnErr result (IsAsBefore n0 old new)
+
+-- the same, where this client has joined
+abbrev pub KeepsAllMember : {A E : Type 0} → ℕ → Held → Held → Result A E → Type 0
+KeepsAllMember client old new result = (n0 : Parts) → IsHeld n0 old → is_in client old.joined.items ≡ true → OnErr result (IsAsBefore n0 old new)
+
 -- what is held is what the state says, whatever the history
 pub record Holds (s : State) (x : Held) : Type 0 where
   pub book : x.book ≡ s.book
@@ -86,3 +114,7 @@ HasMade s asked new made = (change s.book asked ≡ Makes new.book made) × Hold
 
 abbrev pub HasNotMade : State → Change → Held → NoteError → Type 0
 HasNotMade s asked new why = Refuses s.book asked why × Holds s new
+
+-- a change that may be asked is made, or refused and nothing was changed
+abbrev pub TriesChange : Change → Held → Held → Result Changed NoteError → Type 0
+TriesChange asked old new result = (s : State) → Holds s old → IsOrderly s → MatchResult result (HasMade s asked new) (HasNotMade s asked new)

@@ -1,15 +1,14 @@
 //! Starts and answers of evaluations.
 ghost use Rattle.std.specs.Prelude.{◌≡◌, ◌+◌, Some, IfOk, OnErr, map, is_some};
 ghost use Rattle.std.specs.Str.{encode_utf8_all};
-ghost use Rattle.ex_model.specs.Along.{After, MeansInCell};
+ghost use Rattle.ex_model.specs.Along.{MeansInCell};
 ghost use Rattle.notebook.specs.declared.parts.Parts.{Parts};
 ghost use Rattle.lanes.specs.Work.{may_start};
-ghost use Rattle.lanes.specs.Changes.{running_eval};
 ghost use Rattle.session_ops.specs.declared.entry.Call.TheVariants.{Respond};
 ghost use Rattle.session_ops.specs.State.{ChangesNothing};
 ghost use Rattle.session_core.specs.declared.job.PlainJob.{PlainJob as AnyJob};
 ghost use Rattle.session_core.specs.Jobs.{IsAlongTo, answer_by};
-ghost use Rattle.session_core.specs.Held.{IsHeld, HasAnswered, HasTriedStart, LeavesState, IsAsBefore, IsHandedOut, state_of};
+ghost use Rattle.session_core.specs.Held.{IsHeld, HasAnswered, HasTriedStart, LeavesState, IsHandedOut, KeepsAll};
 
 use crate::evaluated::Evaluated;
 use crate::held::Held;
@@ -25,8 +24,9 @@ impl Held {
     /// `None` exactly where no cell of the lane may start, and then nothing is appended, nor after want
     /// of memory.
     pub(crate) fn start(&mut self, by: u32, lane: Lane) -> Result<Option<PlainJob>, AllocError>
-        ensures ok { (n0 : Parts) → IsHeld n0 self.old → IfOk result (HasTriedStart n0 by lane self.old self.new) }
-        ensures err { (n0 : Parts) → IsHeld n0 self.old → OnErr result (IsAsBefore n0 self.old self.new) }
+        ensures ok { (n0 : Parts) → IsHeld n0 self.old
+            → IfOk result (HasTriedStart n0 by lane self.old self.new) }
+        ensures err { KeepsAll self.old self.new result }
     {
         let Some(cell) = self.work.may_start(&self.book, lane) else {
             return Ok(None);
@@ -50,8 +50,11 @@ impl Held {
         source: Text,
         base: Bindings,
     ) -> Result<PlainJob, AllocError>
-        ensures ok { (n0 : Parts) → IsHeld n0 self.old → may_start self.old.book self.old.work lane ≡ Some cell → IsAlongTo self.old.book cell source base → IfOk result (λ job. HasTriedStart n0 by lane self.old self.new (Some job)) }
-        ensures err { (n0 : Parts) → IsHeld n0 self.old → OnErr result (IsAsBefore n0 self.old self.new) }
+        ensures ok { (n0 : Parts) → IsHeld n0 self.old
+            → may_start self.old.book self.old.work lane ≡ Some cell
+            → IsAlongTo self.old.book cell source base
+            → IfOk result (λ job. HasTriedStart n0 by lane self.old self.new (Some job)) }
+        ensures err { KeepsAll self.old self.new result }
     {
         self.history.make_room(2)?;
         let eval = self.work.begin(self.alloc, &self.book, lane, cell)?;
@@ -75,8 +78,14 @@ impl Held {
     pub(crate) fn respond(&mut self, by: u32, eval: u64, ran: Evaluated) -> Reply
         requires { (n0 : Parts) × (job : AnyJob)
             × IsHeld n0 self.old × IsHandedOut n0 self.old by job × (job.eval ≡ eval) }
-        ensures ok { (n0 : Parts) (job : AnyJob) → IsHeld n0 self.old → IsHandedOut n0 self.old by job → job.eval ≡ eval → MeansInCell (encode_utf8_all job.source) job.base ran → HasAnswered n0 by (Respond eval ran.shown) self.old self.new result }
-        ensures late { (n0 : Parts) (job : AnyJob) → IsHeld n0 self.old → IsHandedOut n0 self.old by job → job.eval ≡ eval → MeansInCell (encode_utf8_all job.source) job.base ran → ChangesNothing (Respond eval ran.shown) result → LeavesState n0 self.old self.new }
+        ensures ok { (n0 : Parts) (job : AnyJob) → IsHeld n0 self.old
+            → IsHandedOut n0 self.old by job → job.eval ≡ eval
+            → MeansInCell (encode_utf8_all job.source) job.base ran
+            → HasAnswered n0 by (Respond eval ran.shown) self.old self.new result }
+        ensures late { (n0 : Parts) (job : AnyJob) → IsHeld n0 self.old
+            → IsHandedOut n0 self.old by job → job.eval ≡ eval
+            → MeansInCell (encode_utf8_all job.source) job.base ran
+            → ChangesNothing (Respond eval ran.shown) result → LeavesState n0 self.old self.new }
     {
         let runs = self.work.running(eval).is_some();
         let (shown, kept) = ran.twice();

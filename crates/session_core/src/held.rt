@@ -11,7 +11,7 @@ ghost use Rattle.session_ops.specs.declared.entry.Reply.TheVariants.{Refused};
 ghost use Rattle.session_ops.specs.Snapshot.{IsSnapshot, live_revision};
 ghost use Rattle.session_ops.specs.State.{ChangesNothing, reply};
 ghost use Rattle.session_ops.specs.Structure.{change_of};
-ghost use Rattle.session_core.specs.Held.{IsHeld, HasAnswered, LeavesState, IsAsBefore, history_of, state_of};
+ghost use Rattle.session_core.specs.Held.{IsHeld, LeavesState, history_of, state_of, Answers, AnswersRefused, KeepsAll};
 ghost use Rattle.session_core.specs.Session.{IsWaiting, status_of, validity_of, shown_of, ready_lane};
 
 use crate::clients::{is_in, remove};
@@ -56,9 +56,11 @@ impl Held {
     /// Does what a client asks, and appends one entry with the answer, which it also gives. A refused
     /// call changes the history alone. After want of memory nothing is appended.
     pub(crate) fn apply(&mut self, by: u32, client: u32, op: Op) -> Result<Reply, AllocError>
-        ensures ok { (n0 : Parts) → IsHeld n0 self.old → IfOk result (HasAnswered n0 by (Client client op) self.old self.new) }
-        ensures refused { (n0 : Parts) → IsHeld n0 self.old → IfOk result (λ answer. ChangesNothing (Client client op) answer → LeavesState n0 self.old self.new) }
-        ensures err { (n0 : Parts) → IsHeld n0 self.old → OnErr result (IsAsBefore n0 self.old self.new) }
+        ensures ok { Answers by (Client client op) self.old self.new result }
+        ensures refused { (n0 : Parts) → IsHeld n0 self.old
+            → IfOk result (λ answer. ChangesNothing (Client client op) answer
+                → LeavesState n0 self.old self.new) }
+        ensures err { KeepsAll self.old self.new result }
     {
         match op.change()? {
             Some(change) => self.restructure(by, client, op, change),
@@ -69,8 +71,8 @@ impl Held {
     /// Does what a client asks that isn't a change of the structure.
     fn act(&mut self, by: u32, client: u32, op: Op) -> Result<Reply, AllocError>
         requires { change_of op ≡ None }
-        ensures ok { (n0 : Parts) → IsHeld n0 self.old → IfOk result (HasAnswered n0 by (Client client op) self.old self.new) }
-        ensures err { (n0 : Parts) → IsHeld n0 self.old → OnErr result (IsAsBefore n0 self.old self.new) }
+        ensures ok { Answers by (Client client op) self.old self.new result }
+        ensures err { KeepsAll self.old self.new result }
     {
         match op {
             Op::Join => self.join(by, client),
@@ -93,8 +95,8 @@ impl Held {
 
     /// Lets a client take part.
     fn join(&mut self, by: u32, client: u32) -> Result<Reply, AllocError>
-        ensures ok { (n0 : Parts) → IsHeld n0 self.old → IfOk result (HasAnswered n0 by (Client client IsJoin) self.old self.new) }
-        ensures err { (n0 : Parts) → IsHeld n0 self.old → OnErr result (IsAsBefore n0 self.old self.new) }
+        ensures ok { Answers by (Client client IsJoin) self.old self.new result }
+        ensures err { KeepsAll self.old self.new result }
     {
         if is_in(client, self.joined.as_slice()) {
             return self.refuse(by, client, Op::Join, Refusal::AlreadyJoined);
@@ -114,8 +116,8 @@ impl Held {
 
     /// Lets a client take part no more.
     fn leave(&mut self, by: u32, client: u32) -> Result<Reply, AllocError>
-        ensures ok { (n0 : Parts) → IsHeld n0 self.old → IfOk result (HasAnswered n0 by (Client client IsLeave) self.old self.new) }
-        ensures err { (n0 : Parts) → IsHeld n0 self.old → OnErr result (IsAsBefore n0 self.old self.new) }
+        ensures ok { Answers by (Client client IsLeave) self.old self.new result }
+        ensures err { KeepsAll self.old self.new result }
     {
         if !is_in(client, self.joined.as_slice()) {
             return self.refuse(by, client, Op::Leave, Refusal::NotJoined);
@@ -142,8 +144,8 @@ impl Held {
         op: Op,
         why: Refusal,
     ) -> Result<Reply, AllocError>
-        ensures ok { (n0 : Parts) → IsHeld n0 self.old → reply (state_of n0 self.old) (Client client op) ≡ Refused why → IfOk result (HasAnswered n0 by (Client client op) self.old self.new) }
-        ensures err { (n0 : Parts) → IsHeld n0 self.old → OnErr result (IsAsBefore n0 self.old self.new) }
+        ensures ok { AnswersRefused by (Client client op) why self.old self.new result }
+        ensures err { KeepsAll self.old self.new result }
     {
         self.history.make_room(1)?;
         self.history.append(Entry {
@@ -156,7 +158,8 @@ impl Held {
 
     /// The present notebook with each live cell's revision, and the number of entries.
     pub(crate) fn snapshot(&self) -> Result<Snapshot, AllocError>
-        ensures { (n0 : Parts) → IsHeld n0 self.now → IfOk result (IsSnapshot (state_of n0 self.now) (length (history_of self.now))) }
+        ensures { (n0 : Parts) → IsHeld n0 self.now
+            → IfOk result (IsSnapshot (state_of n0 self.now) (length (history_of self.now))) }
     {
         Ok(Snapshot {
             book: self.book.copy()?,
@@ -168,8 +171,10 @@ impl Held {
     /// The first lane that may start: the main one, and then the branches in notebook order. `None`
     /// exactly where none may: never while nothing runs and some cell is queued. Takes no memory.
     pub(crate) fn ready_lane(&self) -> Option<Lane>
-        ensures lane { (n0 : Parts) → IsHeld n0 self.now → result ≡ ready_lane (state_of n0 self.now) }
-        ensures some { (n0 : Parts) → IsHeld n0 self.now → IsWaiting (state_of n0 self.now) → IsSome result }
+        ensures lane { (n0 : Parts) → IsHeld n0 self.now
+            → result ≡ ready_lane (state_of n0 self.now) }
+        ensures some { (n0 : Parts) → IsHeld n0 self.now → IsWaiting (state_of n0 self.now)
+            → IsSome result }
     {
         self.work.ready_lane(&self.book)
     }
@@ -213,7 +218,8 @@ impl Held {
     /// The revision of a cell's source; `None` exactly where no live cell has the number. Takes no
     /// memory.
     pub(crate) fn rev(&self, cell: CellId) -> Option<u64>
-        ensures { (n0 : Parts) → IsHeld n0 self.now → result ≡ live_revision (state_of n0 self.now) cell }
+        ensures { (n0 : Parts) → IsHeld n0 self.now
+            → result ≡ live_revision (state_of n0 self.now) cell }
     {
         match place_of(self.logs.as_slice(), cell) {
             None => None,
@@ -224,7 +230,9 @@ impl Held {
     /// Status, validity and what is shown of a setup or code cell; `None` exactly where no live setup
     /// or code cell has the number. Takes no memory.
     pub(crate) fn row(&self, cell: CellId) -> Option<Row<'_>>
-        ensures { (n0 : Parts) → IsHeld n0 self.now → MatchOption result (path (state_of n0 self.now).book cell ≡ None) (IsRow (state_of n0 self.now).book (state_of n0 self.now).work cell) }
+        ensures { (n0 : Parts) → IsHeld n0 self.now
+            → MatchOption result (path (state_of n0 self.now).book cell ≡ None)
+            (IsRow (state_of n0 self.now).book (state_of n0 self.now).work cell) }
     {
         self.work.row(&self.book, cell)
     }
@@ -232,7 +240,8 @@ impl Held {
     /// What is asked for a cell; `None` exactly where no live setup or code cell has the number. Takes
     /// no memory.
     pub(crate) fn status(&self, cell: CellId) -> Option<Status>
-        ensures { (n0 : Parts) → IsHeld n0 self.now → result ≡ status_of (state_of n0 self.now) cell }
+        ensures { (n0 : Parts) → IsHeld n0 self.now
+            → result ≡ status_of (state_of n0 self.now) cell }
     {
         match self.row(cell) {
             None => None,
@@ -243,7 +252,8 @@ impl Held {
     /// What a cell's last evaluation is worth; `None` exactly where no live setup or code cell has the
     /// number. Takes no memory.
     pub(crate) fn validity(&self, cell: CellId) -> Option<Validity>
-        ensures { (n0 : Parts) → IsHeld n0 self.now → result ≡ validity_of (state_of n0 self.now) cell }
+        ensures { (n0 : Parts) → IsHeld n0 self.now
+            → result ≡ validity_of (state_of n0 self.now) cell }
     {
         match self.row(cell) {
             None => None,
@@ -254,7 +264,8 @@ impl Held {
     /// What a cell's last finished evaluation showed; `None` exactly where no evaluation of a live setup
     /// or code cell of the number was finished. Takes no memory.
     pub(crate) fn shown(&self, cell: CellId) -> Option<&Shown>
-        ensures { (n0 : Parts) → IsHeld n0 self.now → option_copied result ≡ shown_of (state_of n0 self.now) cell }
+        ensures { (n0 : Parts) → IsHeld n0 self.now
+            → option_copied result ≡ shown_of (state_of n0 self.now) cell }
     {
         match self.row(cell) {
             None => None,

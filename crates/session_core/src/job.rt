@@ -29,7 +29,8 @@ pub struct PlainJob {
 
 /// The bindings after some cells, evaluated one after the other from no bindings.
 pub(crate) fn base_of(alloc: Global, cells: FlowCells<'_>) -> Result<Bindings, AllocError>
-    ensures { HasAfter (map passed (left cells.entry)) → IfOk result (λ b. After (map source_bytes (map passed (left cells.entry))) b) }
+    ensures { HasAfter (map passed (left cells.entry))
+        → IfOk result (λ b. After (map source_bytes (map passed (left cells.entry))) b) }
 {
     let mut bindings = Bindings::new(alloc);
     let mut rest = cells;
@@ -42,7 +43,9 @@ pub(crate) fn base_of(alloc: Global, cells: FlowCells<'_>) -> Result<Bindings, A
 
 /// The bindings after one cell more.
 fn further(alloc: Global, cell: &Cell, bindings: Bindings) -> Result<Bindings, AllocError>
-    ensures { IfOk result (λ b. (ran : AnyRan) × MeansInCell (source_bytes (passed cell.now)) bindings ran × (b ≡ put_all bindings ran.made)) }
+    ensures { IfOk result (λ b. (ran : AnyRan)
+        × MeansInCell (source_bytes (passed cell.now)) bindings ran
+        × (b ≡ put_all bindings ran.made)) }
 {
     let ran = run(alloc, cell.source.as_str(), &bindings, STEPS)?;
     bindings.with(&ran.made)

@@ -23,7 +23,8 @@ pub(crate) struct CellLog {
 
 /// A log for each live cell, which nobody has joined.
 pub(crate) fn first_logs(alloc: Global, book: &Parts) -> Result<Vec<CellLog>, AllocError>
-    ensures { AllByRecursion (BeginsIn book.now) (cells book.now) → IfOk result (λ logs. LineUp (opening book.now) (cells book.now) logs.items) }
+    ensures { AllByRecursion (BeginsIn book.now) (cells book.now)
+        → IfOk result (λ logs. LineUp (opening book.now) (cells book.now) logs.items) }
 {
     let mut logs = Vec::new(alloc);
     push_log(alloc, &mut logs, &book.setup)?;
@@ -35,7 +36,9 @@ pub(crate) fn first_logs(alloc: Global, book: &Parts) -> Result<Vec<CellLog>, Al
 
 /// Puts a log for each cell at the end.
 fn push_logs(alloc: Global, logs: &mut Vec<CellLog>, cells: &[Cell]) -> Result<(), AllocError>
-    ensures { (n : Parts) (before : List Cell) → AllByRecursion (BeginsIn n) cells.now → LineUp (opening n) before logs.old.items → OnOk result (LineUp (opening n) (before ++ cells.now) logs.new.items) }
+    ensures { (n : Parts) (before : List Cell) → AllByRecursion (BeginsIn n) cells.now
+        → LineUp (opening n) before logs.old.items
+        → OnOk result (LineUp (opening n) (before ++ cells.now) logs.new.items) }
 {
     for cell in cells {
         push_log(alloc, logs, cell)?;
@@ -45,7 +48,9 @@ fn push_logs(alloc: Global, logs: &mut Vec<CellLog>, cells: &[Cell]) -> Result<(
 
 /// Puts a log for the cell at the end.
 fn push_log(alloc: Global, logs: &mut Vec<CellLog>, cell: &Cell) -> Result<(), AllocError>
-    ensures { (n : Parts) (before : List Cell) → BeginsIn n cell.now → LineUp (opening n) before logs.old.items → OnOk result (LineUp (opening n) (before ++ cell.now ∷ []) logs.new.items) }
+    ensures { (n : Parts) (before : List Cell) → BeginsIn n cell.now
+        → LineUp (opening n) before logs.old.items
+        → OnOk result (LineUp (opening n) (before ++ cell.now ∷ []) logs.new.items) }
 {
     let log = SourceLog::new(alloc, cell.source.copy()?, &[])?;
     logs.push(CellLog { cell: cell.id, log })?;
@@ -59,7 +64,8 @@ pub(crate) fn new_log(
     source: Text,
     joined: &[u32],
 ) -> Result<CellLog, AllocError>
-    ensures { (s : State) → IsFreshIn s joined.now cell source → IfOk result (IsNewLog s cell source) }
+    ensures { (s : State) → IsFreshIn s joined.now cell source
+        → IfOk result (IsNewLog s cell source) }
 {
     let log = SourceLog::new(alloc, source, joined)?;
     Ok(CellLog { cell, log })
@@ -94,8 +100,12 @@ pub(crate) fn take_part(
     ensures joined_ok { OnOk result (joined.new.items ≡ joined.old.items ++ client ∷ []) }
     ensures joined_err { OnErr result (joined.new.items ≡ joined.old.items) }
     ensures cells { map log_cell logs.new.items ≡ map log_cell logs.old.items }
-    ensures logs_ok { (s : State) → is_in client s.joined ≡ false → AllByRecursion (IsLogIn s) logs.old.items → OnOk result (AllByRecursion (IsLogIn (once_joined client s)) logs.new.items) }
-    ensures logs_err { (s : State) → is_in client s.joined ≡ false → AllByRecursion (IsLogIn s) logs.old.items → OnErr result (AllByRecursion (IsLogIn s) logs.new.items) }
+    ensures logs_ok { (s : State) → is_in client s.joined ≡ false
+        → AllByRecursion (IsLogIn s) logs.old.items
+        → OnOk result (AllByRecursion (IsLogIn (once_joined client s)) logs.new.items) }
+    ensures logs_err { (s : State) → is_in client s.joined ≡ false
+        → AllByRecursion (IsLogIn s) logs.old.items
+        → OnErr result (AllByRecursion (IsLogIn s) logs.new.items) }
 {
     joined.push(client)?;
     match join_all(logs, client) {
@@ -111,8 +121,12 @@ pub(crate) fn take_part(
 /// what they stood for.
 fn join_all(logs: &mut [CellLog], client: u32) -> Result<(), AllocError>
     ensures cells { map log_cell logs.new ≡ map log_cell logs.old }
-    ensures ok { (s : State) → is_in client s.joined ≡ false → AllByRecursion (IsLogIn s) logs.old → OnOk result (AllByRecursion (IsLogIn (once_joined client s)) logs.new) }
-    ensures err { (s : State) → is_in client s.joined ≡ false → AllByRecursion (IsLogIn s) logs.old → OnErr result (AllByRecursion (IsLogIn s) logs.new) }
+    ensures ok { (s : State) → is_in client s.joined ≡ false
+        → AllByRecursion (IsLogIn s) logs.old
+        → OnOk result (AllByRecursion (IsLogIn (once_joined client s)) logs.new) }
+    ensures err { (s : State) → is_in client s.joined ≡ false
+        → AllByRecursion (IsLogIn s) logs.old
+        → OnErr result (AllByRecursion (IsLogIn s) logs.new) }
     ensures len { length logs.new ≡ length logs.old }
 {
     for at in 0..logs.len() {
@@ -128,7 +142,9 @@ fn join_all(logs: &mut [CellLog], client: u32) -> Result<(), AllocError>
 fn leave_first(logs: &mut [CellLog], client: u32, count: usize)
     requires { count ≤ length logs.old }
     ensures cells { map log_cell logs.new ≡ map log_cell logs.old }
-    ensures logs { (s : State) → is_in client s.joined ≡ false → ArePast (IsLogIn (once_joined client s)) (IsLogIn s) count logs.old → AllByRecursion (IsLogIn s) logs.new }
+    ensures logs { (s : State) → is_in client s.joined ≡ false
+        → ArePast (IsLogIn (once_joined client s)) (IsLogIn s) count logs.old
+        → AllByRecursion (IsLogIn s) logs.new }
     ensures len { length logs.new ≡ length logs.old }
 {
     let mut left = count;
@@ -141,7 +157,8 @@ fn leave_first(logs: &mut [CellLog], client: u32, count: usize)
 /// Notes in each log that a client has left.
 pub(crate) fn leave_all(logs: &mut [CellLog], client: u32)
     ensures cells { map log_cell logs.new ≡ map log_cell logs.old }
-    ensures logs { (s : State) → AllByRecursion (IsLogIn s) logs.old → AllByRecursion (IsLogIn (once_left client s)) logs.new }
+    ensures logs { (s : State) → AllByRecursion (IsLogIn s) logs.old
+        → AllByRecursion (IsLogIn (once_left client s)) logs.new }
     ensures len { length logs.new ≡ length logs.old }
 {
     for at in 0..logs.len() {
@@ -151,7 +168,8 @@ pub(crate) fn leave_all(logs: &mut [CellLog], client: u32)
 
 /// Each cell with its revision.
 pub(crate) fn revisions(alloc: Global, logs: &[CellLog]) -> Result<Items<(CellId, u64)>, AllocError>
-    ensures { (s : State) → AllByRecursion (IsLogIn s) logs.now → IfOk result (λ revs. revs ≡ map (with_revision s) (map log_cell logs.now)) }
+    ensures { (s : State) → AllByRecursion (IsLogIn s) logs.now
+        → IfOk result (λ revs. revs ≡ map (with_revision s) (map log_cell logs.now)) }
 {
     let mut revs = Items::new(alloc);
     for log in logs {

@@ -6,7 +6,7 @@ ghost use Rattle.session_ops.specs.declared.entry.Op.TheVariants.{Queue as IsQue
 ghost use Rattle.session_ops.specs.State.{reply, code_reply, queue_reply_by, cancel_reply_by};
 ghost use Rattle.lanes.specs.Work.{failed_ancestor, is_queued, is_running};
 ghost use Rattle.std.specs.Prelude.{◌||◌};
-ghost use Rattle.session_core.specs.Held.{IsHeld, HasAnswered, IsAsBefore, state_of};
+ghost use Rattle.session_core.specs.Held.{IsHeld, state_of, Answers, AnswersAccepted, KeepsAll};
 ghost use Rattle.session_core.specs.Session.{refused_by};
 
 use crate::clients::is_in;
@@ -18,8 +18,8 @@ use std::alloc::AllocError;
 impl Held {
     /// Queues a cell.
     pub(crate) fn queue(&mut self, by: u32, client: u32, cell: CellId) -> Result<Reply, AllocError>
-        ensures ok { (n0 : Parts) → IsHeld n0 self.old → IfOk result (HasAnswered n0 by (Client client (IsQueue cell)) self.old self.new) }
-        ensures err { (n0 : Parts) → IsHeld n0 self.old → OnErr result (IsAsBefore n0 self.old self.new) }
+        ensures ok { Answers by (Client client (IsQueue cell)) self.old self.new result }
+        ensures err { KeepsAll self.old self.new result }
     {
         match self.queue_refusal(client, cell) {
             Some(why) => self.refuse(by, client, Op::Queue { cell }, why),
@@ -29,7 +29,8 @@ impl Held {
 
     /// Why a client may not queue a cell.
     fn queue_refusal(&self, client: u32, cell: CellId) -> Option<Refusal>
-        ensures { (n0 : Parts) → IsHeld n0 self.now → result ≡ refused_by (reply (state_of n0 self.now) (Client client (IsQueue cell))) }
+        ensures { (n0 : Parts) → IsHeld n0 self.now
+            → result ≡ refused_by (reply (state_of n0 self.now) (Client client (IsQueue cell))) }
     {
         if !is_in(client, self.joined.as_slice()) {
             return Some(Refusal::NotJoined);
@@ -42,7 +43,8 @@ impl Held {
 
     /// Why a cell of this kind may not be queued.
     fn code_refusal(&self, cell: CellId, kind: Kind) -> Option<Refusal>
-        ensures { result ≡ refused_by (code_reply kind (queue_reply_by (failed_ancestor self.now.book self.now.work cell))) }
+        ensures { result ≡ refused_by
+            (code_reply kind (queue_reply_by (failed_ancestor self.now.book self.now.work cell))) }
     {
         if kind == Kind::Markdown {
             return Some(Refusal::NotCode);
@@ -55,8 +57,8 @@ impl Held {
 
     /// Queues a cell that may be queued.
     fn take_queued(&mut self, by: u32, client: u32, cell: CellId) -> Result<Reply, AllocError>
-        ensures ok { (n0 : Parts) → IsHeld n0 self.old → refused_by (reply (state_of n0 self.old) (Client client (IsQueue cell))) ≡ None → IfOk result (HasAnswered n0 by (Client client (IsQueue cell)) self.old self.new) }
-        ensures err { (n0 : Parts) → IsHeld n0 self.old → OnErr result (IsAsBefore n0 self.old self.new) }
+        ensures ok { AnswersAccepted by (Client client (IsQueue cell)) self.old self.new result }
+        ensures err { KeepsAll self.old self.new result }
     {
         self.history.make_room(1)?;
         self.work.ask(cell)?;
@@ -74,8 +76,8 @@ impl Held {
 
     /// Cancels a cell: it is neither queued nor runs any more.
     pub(crate) fn cancel(&mut self, by: u32, client: u32, cell: CellId) -> Result<Reply, AllocError>
-        ensures ok { (n0 : Parts) → IsHeld n0 self.old → IfOk result (HasAnswered n0 by (Client client (IsCancel cell)) self.old self.new) }
-        ensures err { (n0 : Parts) → IsHeld n0 self.old → OnErr result (IsAsBefore n0 self.old self.new) }
+        ensures ok { Answers by (Client client (IsCancel cell)) self.old self.new result }
+        ensures err { KeepsAll self.old self.new result }
     {
         match self.cancel_refusal(client, cell) {
             Some(why) => self.refuse(by, client, Op::Cancel { cell }, why),
@@ -85,7 +87,8 @@ impl Held {
 
     /// Why a client may not cancel a cell.
     fn cancel_refusal(&self, client: u32, cell: CellId) -> Option<Refusal>
-        ensures { (n0 : Parts) → IsHeld n0 self.now → result ≡ refused_by (reply (state_of n0 self.now) (Client client (IsCancel cell))) }
+        ensures { (n0 : Parts) → IsHeld n0 self.now
+            → result ≡ refused_by (reply (state_of n0 self.now) (Client client (IsCancel cell))) }
     {
         if !is_in(client, self.joined.as_slice()) {
             return Some(Refusal::NotJoined);
@@ -98,7 +101,8 @@ impl Held {
 
     /// Why a cell of this kind may not be cancelled.
     fn wanted_refusal(&self, cell: CellId, kind: Kind) -> Option<Refusal>
-        ensures { result ≡ refused_by (code_reply kind (cancel_reply_by (is_queued self.now.work cell || is_running self.now.work cell))) }
+        ensures { result ≡ refused_by (code_reply kind (cancel_reply_by
+            (is_queued self.now.work cell || is_running self.now.work cell))) }
     {
         if kind == Kind::Markdown {
             return Some(Refusal::NotCode);
@@ -111,8 +115,8 @@ impl Held {
 
     /// Cancels a cell that may be cancelled.
     fn take_cancelled(&mut self, by: u32, client: u32, cell: CellId) -> Result<Reply, AllocError>
-        ensures ok { (n0 : Parts) → IsHeld n0 self.old → refused_by (reply (state_of n0 self.old) (Client client (IsCancel cell))) ≡ None → IfOk result (HasAnswered n0 by (Client client (IsCancel cell)) self.old self.new) }
-        ensures err { (n0 : Parts) → IsHeld n0 self.old → OnErr result (IsAsBefore n0 self.old self.new) }
+        ensures ok { AnswersAccepted by (Client client (IsCancel cell)) self.old self.new result }
+        ensures err { KeepsAll self.old self.new result }
     {
         self.history.make_room(1)?;
         self.work.cancel(cell);

@@ -11,7 +11,7 @@ ghost use Rattle.session_ops.specs.State.{State, reply, report_reply};
 ghost use Rattle.revisions.specs.Answer.{IsReportCause};
 ghost use Rattle.session_core.specs.Logs.{place_in};
 ghost use Rattle.session_core.specs.Stands.{IsMovedIn, source_in};
-ghost use Rattle.session_core.specs.Held.{IsHeld, HasAnswered, IsAsBefore, state_of};
+ghost use Rattle.session_core.specs.Held.{IsHeld, HasAnswered, IsAsBefore, state_of, Answers, AnswersRefused, AnswersMember, KeepsAll, KeepsAllMember};
 ghost use Rattle.session_core.specs.Session.{told};
 
 use crate::clients::is_in;
@@ -35,8 +35,9 @@ pub(crate) struct Edit {
 impl Held {
     /// Edits a cell's source.
     pub(crate) fn edit(&mut self, by: u32, edit: Edit) -> Result<Reply, AllocError>
-        ensures ok { (n0 : Parts) → IsHeld n0 self.old → IfOk result (HasAnswered n0 by (Client edit.client (IsDelta edit.cell edit.base edit.delta)) self.old self.new) }
-        ensures err { (n0 : Parts) → IsHeld n0 self.old → OnErr result (IsAsBefore n0 self.old self.new) }
+        ensures ok { Answers by (Client edit.client
+            (IsDelta edit.cell edit.base edit.delta)) self.old self.new result }
+        ensures err { KeepsAll self.old self.new result }
     {
         if !is_in(edit.client, self.joined.as_slice()) {
             return self.refuse_edit(by, edit, Refusal::NotJoined);
@@ -50,8 +51,9 @@ impl Held {
     /// Edits the source of the cell whose log stands at a place, for a client that has joined.
     fn edit_at(&mut self, by: u32, at: usize, edit: Edit) -> Result<Reply, AllocError>
         requires { Some at ≡ place_in edit.cell self.old.logs.items }
-        ensures ok { (n0 : Parts) → IsHeld n0 self.old → is_in edit.client self.old.joined.items ≡ true → IfOk result (HasAnswered n0 by (Client edit.client (IsDelta edit.cell edit.base edit.delta)) self.old self.new) }
-        ensures err { (n0 : Parts) → IsHeld n0 self.old → is_in edit.client self.old.joined.items ≡ true → OnErr result (IsAsBefore n0 self.old self.new) }
+        ensures ok { AnswersMember by edit.client
+            (IsDelta edit.cell edit.base edit.delta) self.old self.new result }
+        ensures err { KeepsAllMember edit.client self.old self.new result }
     {
         match self.logs[at].log.moved(self.alloc, edit.base, &edit.delta) {
             Ok(moved) => self.take(by, at, edit, moved),
@@ -65,8 +67,17 @@ impl Held {
     /// Takes a client's delta, as it was moved to the present source.
     fn take(&mut self, by: u32, at: usize, edit: Edit, moved: Move) -> Result<Reply, AllocError>
         requires { Some at ≡ place_in edit.cell self.old.logs.items }
-        ensures ok { (n0 : Parts) (c : Cell) → IsHeld n0 self.old → is_in edit.client self.old.joined.items ≡ true → found edit.cell (cells self.old.book) ≡ Some c → IsMovedIn (state_of n0 self.old) edit.cell c edit.base edit.delta moved → IfOk result (HasAnswered n0 by (Client edit.client (IsDelta edit.cell edit.base edit.delta)) self.old self.new) }
-        ensures err { (n0 : Parts) (c : Cell) → IsHeld n0 self.old → is_in edit.client self.old.joined.items ≡ true → found edit.cell (cells self.old.book) ≡ Some c → IsMovedIn (state_of n0 self.old) edit.cell c edit.base edit.delta moved → OnErr result (IsAsBefore n0 self.old self.new) }
+        ensures ok { (n0 : Parts) (c : Cell) → IsHeld n0 self.old
+            → is_in edit.client self.old.joined.items ≡ true
+            → found edit.cell (cells self.old.book) ≡ Some c
+            → IsMovedIn (state_of n0 self.old) edit.cell c edit.base edit.delta moved
+            → IfOk result (HasAnswered n0 by (Client edit.client
+            (IsDelta edit.cell edit.base edit.delta)) self.old self.new) }
+        ensures err { (n0 : Parts) (c : Cell) → IsHeld n0 self.old
+            → is_in edit.client self.old.joined.items ≡ true
+            → found edit.cell (cells self.old.book) ≡ Some c
+            → IsMovedIn (state_of n0 self.old) edit.cell c edit.base edit.delta moved
+            → OnErr result (IsAsBefore n0 self.old self.new) }
     {
         let Edit {
             client,
@@ -99,8 +110,9 @@ impl Held {
 
     /// Refuses a client's delta.
     fn refuse_edit(&mut self, by: u32, edit: Edit, why: Refusal) -> Result<Reply, AllocError>
-        ensures ok { (n0 : Parts) → IsHeld n0 self.old → reply (state_of n0 self.old) (Client edit.client (IsDelta edit.cell edit.base edit.delta)) ≡ Refused why → IfOk result (HasAnswered n0 by (Client edit.client (IsDelta edit.cell edit.base edit.delta)) self.old self.new) }
-        ensures err { (n0 : Parts) → IsHeld n0 self.old → OnErr result (IsAsBefore n0 self.old self.new) }
+        ensures ok { AnswersRefused by (Client edit.client
+            (IsDelta edit.cell edit.base edit.delta)) why self.old self.new result }
+        ensures err { KeepsAll self.old self.new result }
     {
         let Edit {
             client,
@@ -119,8 +131,8 @@ impl Held {
         cell: CellId,
         rev: u64,
     ) -> Result<Reply, AllocError>
-        ensures ok { (n0 : Parts) → IsHeld n0 self.old → IfOk result (HasAnswered n0 by (Client client (IsReport cell rev)) self.old self.new) }
-        ensures err { (n0 : Parts) → IsHeld n0 self.old → OnErr result (IsAsBefore n0 self.old self.new) }
+        ensures ok { Answers by (Client client (IsReport cell rev)) self.old self.new result }
+        ensures err { KeepsAll self.old self.new result }
     {
         if !is_in(client, self.joined.as_slice()) {
             return self.refuse(by, client, Op::Report { cell, rev }, Refusal::NotJoined);
@@ -141,8 +153,8 @@ impl Held {
         rev: u64,
     ) -> Result<Reply, AllocError>
         requires { Some at ≡ place_in cell self.old.logs.items }
-        ensures ok { (n0 : Parts) → IsHeld n0 self.old → is_in client self.old.joined.items ≡ true → IfOk result (HasAnswered n0 by (Client client (IsReport cell rev)) self.old self.new) }
-        ensures err { (n0 : Parts) → IsHeld n0 self.old → is_in client self.old.joined.items ≡ true → OnErr result (IsAsBefore n0 self.old self.new) }
+        ensures ok { AnswersMember by client (IsReport cell rev) self.old self.new result }
+        ensures err { KeepsAllMember client self.old self.new result }
     {
         self.history.make_room(1)?;
         match self.logs[at].log.report(client, rev) {
@@ -177,7 +189,9 @@ fn told(fault: RevError) -> Option<Refusal>
 
 /// How a client is told that its report isn't noted.
 fn told_report(fault: ReportError) -> Refusal
-    ensures { (s : State) (cell : ℕ) (c : Cell) (rev : ℕ) → IsReportCause (source_in s cell c.source) rev fault → report_reply s cell rev (Some c) ≡ Refused result }
+    ensures { (s : State) (cell : ℕ) (c : Cell) (rev : ℕ)
+        → IsReportCause (source_in s cell c.source) rev fault
+        → report_reply s cell rev (Some c) ≡ Refused result }
 {
     match fault {
         ReportError::TooNew { now } => Refusal::TooNew { now },

@@ -1,14 +1,12 @@
 //! Changes of the notebook's structure.
 ghost use Rattle.std.specs.Prelude.{◌≡◌, ◌<◌, ◌^◌, Some, None, true, if◌then◌else◌, filter, find, IfOk, OnErr, MatchResult};
 ghost use Rattle.std.specs.Option.{option_copied};
-ghost use Rattle.notebook.specs.declared.parts.Parts.{Parts as AnyParts};
 ghost use Rattle.notebook.specs.Flow.{is_cell};
 ghost use Rattle.session_ops.specs.declared.entry.Call.TheVariants.{Client};
-ghost use Rattle.session_ops.specs.Orderly.{IsOrderly};
-ghost use Rattle.session_ops.specs.State.{State, made_reply};
+ghost use Rattle.session_ops.specs.State.{made_reply};
 ghost use Rattle.session_ops.specs.Structure.{change_of};
 ghost use Rattle.session_core.specs.Logs.{log_lives};
-ghost use Rattle.session_core.specs.Held.{IsHeld, Holds, HasAnswered, HasMade, HasNotMade, IsAsBefore};
+ghost use Rattle.session_core.specs.Held.{Answers, KeepsAll, TriesChange};
 ghost use Rattle.session_core.specs.Session.{new_source, takes_away, told_change};
 
 use crate::clients::is_in;
@@ -29,8 +27,8 @@ impl Held {
         change: Change,
     ) -> Result<Reply, AllocError>
         requires { change_of op ≡ Some change }
-        ensures ok { (n0 : AnyParts) → IsHeld n0 self.old → IfOk result (HasAnswered n0 by (Client client op) self.old self.new) }
-        ensures err { (n0 : AnyParts) → IsHeld n0 self.old → OnErr result (IsAsBefore n0 self.old self.new) }
+        ensures ok { Answers by (Client client op) self.old self.new result }
+        ensures err { KeepsAll self.old self.new result }
     {
         if !is_in(client, self.joined.as_slice()) {
             return self.refuse(by, client, op, Refusal::NotJoined);
@@ -64,7 +62,7 @@ impl Held {
     /// want of memory, all is as it was.
     fn make(&mut self, change: Change) -> Result<Changed, NoteError>
         ensures history { self.new.history ≡ self.old.history }
-        ensures made { (s : State) → Holds s self.old → IsOrderly s → MatchResult result (HasMade s change self.new) (HasNotMade s change self.new) }
+        ensures made { TriesChange change self.old self.new result }
     {
         if !self.book.has_numbers() {
             return Err(NoteError::OutOfMemory);
@@ -82,7 +80,7 @@ impl Held {
         requires sections { self.old.book.next_section < 2 ^ 63 }
         requires plain { new_source self.old.book change ≡ None }
         ensures history { self.new.history ≡ self.old.history }
-        ensures made { (s : State) → Holds s self.old → IsOrderly s → MatchResult result (HasMade s change self.new) (HasNotMade s change self.new) }
+        ensures made { TriesChange change self.old self.new result }
     {
         let gone = takes_away(&change);
         match self.book.change(self.alloc, change) {
@@ -101,7 +99,7 @@ impl Held {
         requires sections { self.old.book.next_section < 2 ^ 63 }
         requires begins { new_source self.old.book change ≡ Some source }
         ensures history { self.new.history ≡ self.old.history }
-        ensures made { (s : State) → Holds s self.old → IsOrderly s → MatchResult result (HasMade s change self.new) (HasNotMade s change self.new) }
+        ensures made { TriesChange change self.old self.new result }
     {
         let cell = self.book.parts().next_cell;
         let log = new_log(self.alloc, cell, source, self.joined.as_slice())?;
@@ -154,7 +152,8 @@ fn find_in(cells: &[Cell], id: CellId) -> Option<&Cell>
 
 /// Drops the logs of cells that live no more, if some may have gone.
 fn drop_gone(gone: bool, logs: &mut Vec<CellLog>, book: &Notebook)
-    ensures { logs.new.items ≡ (if gone then filter (log_lives book.now) logs.old.items else logs.old.items) }
+    ensures { logs.new.items ≡ (if gone then filter
+        (log_lives book.now) logs.old.items else logs.old.items) }
 {
     if gone {
         drop_dead(logs, book);

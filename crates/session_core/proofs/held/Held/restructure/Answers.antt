@@ -23,8 +23,8 @@ returns-in_err-make_room-clause-err c = λ n0 is. on-err _ _ (untouched n0 c.arg
 pub append-requires : goal.append-requires
 append-requires c = subst (λ (h : History). HasRoom (h.owed + 1) h) (sym c.in-Ok.ensures.history) c.in_ok-make_room.ensures.room
 
-pub append-in-Some-requires : goal.append-in-Some-requires
-append-in-Some-requires c = subst (λ (h : History). HasRoom (h.owed + 1) h) (sym c.in-Err.ensures.history) c.in_ok-make_room.ensures.room
+pub append-requires-in-Some : goal.append-requires-in-Some
+append-requires-in-Some c = subst (λ (h : History). HasRoom (h.owed + 1) h) (sym c.in-Err.ensures.history) c.in_ok-make_room.ensures.room
 
 pub returns-in-Ok-clause-ok : goal.returns-in-Ok-clause-ok
 returns-in-Ok-clause-ok c = λ n0 is.
