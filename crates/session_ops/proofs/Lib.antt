@@ -1,4 +1,5 @@
 pub mod Changes
+pub mod Deeds
 pub mod Fresh
 pub mod Growing
 pub mod Lists
