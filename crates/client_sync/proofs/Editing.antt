@@ -26,7 +26,8 @@ use Rattle.client_sync.specs.declared.edit_error.EditError.{EditError}
 use Rattle.client_sync.specs.declared.edit_error.EditError.TheVariants.{NoCell as NoCellError, EditTooLong as TooLongError, PastEnd, SplitsPair, OutOfMemory}
 use Rattle.client_sync.proofs.Books.{live-apart, with-one-source}
 use Rattle.client_sync.proofs.Edits.{with_buffer, buffer_option, buffered-same, buffered-other, pending-added, pending-beside}
-use Rattle.client_sync.proofs.Fitting.{found-number, one-source, fits-buffered, buffer-shows}
+use Rattle.session_ops.proofs.Live.{found-number}
+use Rattle.client_sync.proofs.Fitting.{one-source, fits-buffered, buffer-shows}
 use Rattle.client_sync.proofs.Viewing.{found-held, known-revision}
 
 -- what an edit is judged by

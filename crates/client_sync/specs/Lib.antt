@@ -1,4 +1,3 @@
-pub mod Arrivals
 pub mod Causes
 pub mod Client
 pub mod Fits

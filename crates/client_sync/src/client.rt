@@ -17,14 +17,13 @@ ghost use Rattle.client_sync.specs.Own.{IsOwnText, IsOwnFault, source_of};
 ghost use Rattle.client_sync.specs.declared.pending.Unconfirmed.{Unconfirmed};
 ghost use Rattle.delta.specs.Moves.{FitsText, composed, transformed, text_after};
 ghost use Rattle.notebook.specs.declared.parts.Cell.{Cell};
-ghost use Rattle.client_sync.specs.Moving.{over_pending, over_option, FitsCell, book_after, IsMovedOver};
+ghost use Rattle.client_sync.specs.Moving.{FitsBoth, IsMovedOver, over_pending, over_option};
 ghost use Rattle.client_sync.specs.Revisions.{raised, with_made, without_revision};
-ghost use Rattle.client_sync.specs.Arrivals.{arriving, arriving_in};
+ghost use Rattle.session_ops.specs.Deeds.{Edits, FitsCell, book_after, deed, edit_in};
 ghost use Rattle.client_sync.specs.Causes.{IsEditCause, IsPostCause};
 ghost use Rattle.client_sync.specs.Stands.{Mirrors, HaveServerTexts, number_in, IsPostable, IsNextEntry, HasTaken, IsPendingOf, IsViewOf, HasEdits, IsPendingAt, in_flight, edit_message, pending_in};
 ghost use Rattle.session_ops.specs.Born.{TouchesMadeCells};
 
-use crate::arrival::{Arrival, accepted_change, applied_by};
 use crate::changes::gone_numbers;
 use crate::edit_error::EditError;
 use crate::outbox::Outbox;
@@ -36,7 +35,7 @@ use delta_laws::{composed, nothing, transformed};
 use limits::MOST_INSERTED;
 use notebook::{CellId, Change, Notebook};
 use plain_list::Items;
-use session_ops::{Entry, Op, Snapshot};
+use session_ops::{CellEdit, Deed, Entry, Op, Snapshot, edit_source};
 use std::alloc::{AllocError, Global};
 use std::mem;
 use utf16_text::Text;
@@ -264,19 +263,10 @@ impl Client {
     fn take_entry(&mut self, entry: &Entry) -> Result<(), AllocError>
         ensures { (n0 : Parts) (m : Holder) → Mirrors n0 self.old m → IsNextEntry n0 m entry.now → OnOk result (Mirrors n0 (record self.new { cursor = length m.seen + 1 }) (received_entry n0 m entry.now)) }
     {
-        match applied_by(entry) {
-            None => self.take_other(entry),
-            Some(applied) => self.take_applied(&applied),
-        }
-    }
-
-    /// Takes in an entry that applied no delta: the change that it made, if it made one.
-    fn take_other(&mut self, entry: &Entry) -> Result<(), AllocError>
-        ensures { (n0 : Parts) (m : Holder) → Mirrors n0 self.old m → IsNextEntry n0 m entry.now → arriving entry.now.call entry.now.reply ≡ None → OnOk result (Mirrors n0 (record self.new { cursor = length m.seen + 1 }) (received_entry n0 m entry.now)) }
-    {
-        match accepted_change(entry)? {
-            None => Ok(()),
-            Some(asked) => self.take_change(asked),
+        match entry.deed()? {
+            Deed::Nothing => Ok(()),
+            Deed::Edits(edit) => self.take_edit(&edit),
+            Deed::Changes(asked) => self.take_change(asked),
         }
     }
 
@@ -345,13 +335,13 @@ impl Client {
     }
 
     /// Takes in a delta that was applied; the cursor stays.
-    fn take_applied(&mut self, applied: &Arrival<'_>) -> Result<(), AllocError>
-        ensures { (n0 : Parts) (m : Holder) (e : Entry) → Mirrors n0 self.old m → IsNextEntry n0 m e → arriving e.call e.reply ≡ Some (arriving_in applied.now) → OnOk result (Mirrors n0 (record self.new { cursor = length m.seen + 1 }) (received_entry n0 m e)) }
+    fn take_edit(&mut self, edit: &CellEdit<'_>) -> Result<(), AllocError>
+        ensures { (n0 : Parts) (m : Holder) (e : Entry) → Mirrors n0 self.old m → IsNextEntry n0 m e → deed e.call e.reply ≡ Edits (edit_in edit.now) → OnOk result (Mirrors n0 (record self.new { cursor = length m.seen + 1 }) (received_entry n0 m e)) }
     {
-        if applied.client == self.number {
-            self.take_own(applied.cell, applied.rev)
+        if edit.client == self.number {
+            self.take_own(edit.cell, edit.rev)
         } else {
-            self.take_foreign(applied.cell, applied.rev, applied.delta)
+            self.take_foreign(edit.cell, edit.rev, edit.delta)
         }
     }
 
@@ -410,15 +400,11 @@ impl Client {
     /// pending for the cell is moved over it, and it is done to the client's own text. One that doesn't
     /// fit, as each of the client's own history does, leaves the text.
     fn take_foreign(&mut self, cell: CellId, rev: u64, delta: &Delta) -> Result<(), AllocError>
-        ensures { (n0 : Parts) (m : Holder) (own : Cell) → Mirrors n0 self.old m → FitsCell (delivered n0 m).book cell delta.now → found cell (cells self.old.book) ≡ Some own → FitsText (over_option delta.now (pending_of cell m.pending)) own.source → OnOk result (IsMovedOver (delivered n0 m).book self.old self.new m cell rev delta.now (text_after (over_option delta.now (pending_of cell m.pending)) own.source)) }
+        ensures { (n0 : Parts) (m : Holder) → Mirrors n0 self.old m → FitsBoth (delivered n0 m).book self.old m cell delta.now → OnOk result (IsMovedOver (delivered n0 m).book self.old self.new m cell rev delta.now) }
     {
         self.raise(cell, rev);
         let shown = self.move_pending(cell, delta)?;
-        let Some(text) = self.text_after(cell, &shown)? else {
-            return Ok(());
-        };
-        self.book.set_source(cell, text);
-        Ok(())
+        edit_source(self.alloc, &mut self.book, cell, &shown)
     }
 
     /// Moves what is pending for a cell over another's delta, and gives the delta moved over what is
@@ -431,21 +417,6 @@ impl Client {
         match place_of(self.pending.as_slice(), cell) {
             None => delta.copy(self.alloc),
             Some(at) => move_over(self.alloc, self.pending.item_mut(at), delta),
-        }
-    }
-
-    /// What a delta makes of a cell's own text; `None` where there is no such cell or the delta doesn't
-    /// fit its text.
-    fn text_after(&self, cell: CellId, delta: &Delta) -> Result<Option<Text>, AllocError>
-        ensures { (own : Cell) → found cell (cells self.now.book) ≡ Some own → FitsText delta.now own.source → IfOk result (λ text. text ≡ Some (text_after delta.now own.source)) }
-    {
-        let Some(own) = self.book.find(cell) else {
-            return Ok(None);
-        };
-        match delta.apply(self.alloc, &own.source) {
-            Ok(text) => Ok(Some(text)),
-            Err(ApplyError::OutOfMemory) => Err(AllocError),
-            Err(ApplyError::PastEnd { .. } | ApplyError::SplitsPair { .. }) => Ok(None),
         }
     }
 

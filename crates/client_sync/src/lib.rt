@@ -6,7 +6,6 @@
 //! then. After an edit or a message that was refused it is as it was.
 #![tactic(auto)]
 
-mod arrival;
 mod changes;
 mod client;
 mod edit_error;
