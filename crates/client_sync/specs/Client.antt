@@ -4,6 +4,7 @@ use Rattle.delta.specs.declared.Step.{Step}
 use Rattle.delta.specs.Steps.{inserted_by}
 use Rattle.delta.specs.Moves.{text_after, transformed, composed}
 use Rattle.delta_laws.specs.Misfits.{Misfit, misfit}
+use Rattle.limits.specs.Limits.{most_inserted}
 use Rattle.notebook.specs.declared.parts.Cell.{Cell}
 use Rattle.notebook.specs.declared.parts.Parts.{Parts}
 use Rattle.notebook.specs.Book.{cells, found, resourced}
@@ -76,7 +77,7 @@ with_fitting c cell rev d (Some why) = Unfit why
 
 abbrev pub edited_cell : Client → ℕ → ℕ → List Step → Option Cell → Edited
 edited_cell c cell rev d None = NoCell
-edited_cell c cell rev d (Some own) = if nat_lt 65536 (inserted_by d) then EditTooLong else with_fitting c cell rev d (misfit d own.source)
+edited_cell c cell rev d (Some own) = if nat_lt most_inserted (inserted_by d) then EditTooLong else with_fitting c cell rev d (misfit d own.source)
 
 -- an edit, judged by the client's own text
 abbrev pub edited : Parts → Client → ℕ → List Step → Edited

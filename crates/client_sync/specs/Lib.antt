@@ -6,3 +6,4 @@ pub mod Moving
 pub mod Own
 pub mod Revisions
 pub mod Stands
+pub mod Steps

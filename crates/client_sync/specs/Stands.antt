@@ -1,5 +1,5 @@
 -- What a client in memory stands for.
-use Rattle.std.specs.Prelude.{◌≡◌, ◌≤◌, ℕ, true, List, [], ◌∷◌, ◌++◌, length, map, Option, Some, None}
+use Rattle.std.specs.Prelude.{◌≡◌, ℕ, true, List, [], ◌∷◌, ◌++◌, length, map, Option, Some, None}
 use Rattle.std.specs.Option.{option_copied}
 use Rattle.std.specs.List.{AllByRecursion}
 use Rattle.delta.specs.declared.Step.{Step}
@@ -12,7 +12,7 @@ use Rattle.session_ops.specs.Structure.{is_postable}
 use Rattle.session_ops.specs.declared.entry.Entry.{Entry}
 use Rattle.session_ops.specs.Deeds.{Deed, Nothing, Edits, Changes, deed}
 use Rattle.session_ops.specs.Born.{TouchesMadeCells}
-use Rattle.session_ops.specs.State.{State, reply, revision}
+use Rattle.session_ops.specs.State.{reply}
 use Rattle.session_ops.specs.Snapshot.{HasRevisions}
 use Rattle.client_sync.specs.Client.{Client as Holder, Pending, pending_of, held, delivered}
 use Rattle.client_sync.specs.Fits.{HasSource, FitsHere}
@@ -73,6 +73,10 @@ pub record Mirrors (n0 : Parts) (c : Client) (m : Holder) : Type 0 where
   pub texts : HaveServerTexts (delivered n0 m).book c.pending
   pub notebook : IsNotebook (delivered n0 m).book
   pub made : TouchesMadeCells (delivered n0 m)
+
+-- what holds at each opening notebook and client of the definitions for which the one in memory stands
+abbrev pub ForEachHolder : Client → (Parts → Holder → Type 0) → Type 0
+ForEachHolder c P = (n0 : Parts) (m : Holder) → Mirrors n0 c m → P n0 m
 
 -- an operation that may be posted as it is
 abbrev pub IsPostable : Op → Type 0

@@ -12,7 +12,7 @@ all-ok Q A (Ok x) f p q s = f p q s
 all-ok Q A (Err x) f p q s = tt
 
 pub returns-then-edit-self : goal.returns-then-edit-self
-returns-then-edit-self c = λ n0 m e is next came.
+returns-then-edit-self c = λ n0 m is e next came.
     let a : CellEdit = edit_in c.args.edit.now in
     let has : HasEdits c.args.self.now.pending c.args.self.now.outbox m = record { pending = is.pending; outbox = is.outbox; apart = is.apart } in
     all-ok (λ (p : Pending). HaveServerTexts (book_after a.cell p.flight (delivered n0 m).book) c.take_own.new.self.pending) (λ p. (pending_of a.cell m.pending ≡ Some p) × FitsCell (delivered n0 m).book a.cell p.flight) c.take_own.result
@@ -21,7 +21,7 @@ returns-then-edit-self c = λ n0 m e is next came.
     (λ p w. c.take_own.ensures.texts (delivered n0 m).book m p is.texts has w.0 w.1) c.take_own.ensures.rest
 
 pub returns-else-edit-self : goal.returns-else-edit-self
-returns-else-edit-self c = λ n0 m e is next came.
+returns-else-edit-self c = λ n0 m is e next came.
     let a : CellEdit = edit_in c.args.edit.now in
     let f : IsForeign n0 c.args.self.now m a.cell a.delta = is-foreign n0 c.args.self.now m e a is next came in
     on_ok_weaker c.take_foreign.result (λ moved. foreign-mirrors n0 c.args.self.now c.take_foreign.new.self m e a is next came c.if-edit-self.false f moved)

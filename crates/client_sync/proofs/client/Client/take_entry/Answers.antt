@@ -16,7 +16,7 @@ pub returns-in-Edits : goal.returns-in-Edits
 returns-in-Edits c = λ n0 m is next.
     let e = c.args.entry.now in
     let did : deed e.call e.reply ≡ Edits (edit_in c.in-Edits.edit) = sym c.in_ok-deed.ensures ∙ ap deed_in c.in-Edits.is in
-    c.take_edit.ensures n0 m e is next did
+    c.take_edit.ensures n0 m is e next did
 
 pub returns-in-Changes : goal.returns-in-Changes
 returns-in-Changes c = λ n0 m is next.
