@@ -10,6 +10,7 @@ pub mod Orderly
 pub mod Ready
 pub mod Settled
 pub mod Shown
+pub mod Snapshots
 pub mod Sources
 pub mod Steps
 pub mod Structures
