@@ -3,6 +3,7 @@ use Rattle.std.proofs.Common.{◌≡◌, ℕ, ◌≤◌, ◌==◌, Bool, true, f
 use Rattle.std.proofs.Math.Seq.{drop-append_seam}
 use Rattle.std.proofs.lemmas.Bool.Decides.{nat_tests}
 use Rattle.std.proofs.lemmas.List.{length-append, append-nil, append_assoc, map-append}
+use Rattle.std.proofs.lemmas.List.Elements.{filter-append}
 use Rattle.delta.specs.declared.Step.{Step}
 use Rattle.delta.specs.declared.Step.TheVariants.{Retain, Insert, Delete}
 use Rattle.session_ops.specs.declared.entry.Op.{Op}
@@ -11,7 +12,7 @@ use Rattle.session_ops.specs.declared.entry.Call.TheVariants.{Client as ByClient
 use Rattle.session_ops.specs.declared.entry.Reply.{Reply}
 use Rattle.session_ops.specs.declared.entry.Reply.TheVariants.{Accepted, Applied, NewCell, NewSection, Started, Stored, Late, Refused}
 use Rattle.session_ops.specs.declared.entry.Entry.{Entry}
-use Rattle.session_ops.specs.State.{entries_by}
+use Rattle.session_ops.specs.State.{entries_by, by_of}
 use Rattle.notebook.specs.declared.change.CellKind.{CellKind}
 use Rattle.notebook.specs.declared.change.CellKind.TheVariants.{Code, Markdown}
 use Rattle.notebook.specs.declared.parts.Parts.{Parts}
@@ -59,13 +60,8 @@ pub run-push : (h : List Entry) (e : Entry) → AllOfRun 0 h → e.by ≡ 0 → 
 run-push [] e r by = (inl by, tt)
 run-push (x ∷ h) e r by = (r.0, run-push h e r.1 by)
 
-by-of : (b : Bool) (x : Entry) (xs ys : List Entry) → (if b then x ∷ (xs ++ ys) else xs ++ ys) ≡ (if b then x ∷ xs else xs) ++ ys
-by-of true x xs ys = refl
-by-of false x xs ys = refl
-
 pub by-append : (h k : List Entry) (p : ℕ) → entries_by (h ++ k) p ≡ entries_by h p ++ entries_by k p
-by-append [] k p = refl
-by-append (x ∷ h) k p = ap (λ ys. if x.by == p then x ∷ ys else ys) (by-append h k p) ∙ by-of (x.by == p) x (entries_by h p) (entries_by k p)
+by-append h k p = filter-append (λ e. by_of e == p) h k
 
 pub asked-push : (h : List Entry) (e : Entry) → e.by ≡ 0 → map call_of (entries_by (h ++ e ∷ []) 0) ≡ map call_of (entries_by h 0) ++ e.call ∷ []
 asked-push h e by =

@@ -32,6 +32,7 @@ use Rattle.session_ops.specs.declared.entry.Refusal.TheVariants.{NotJoined, Alre
 use Rattle.session_ops.specs.declared.entry.Reply.{Reply}
 use Rattle.session_ops.specs.declared.entry.Reply.TheVariants.{Accepted, Applied, NewCell, NewSection, Started, Stored, Late, Refused}
 use Rattle.session_ops.specs.declared.entry.Entry.{Entry}
+use Rattle.plain_list.specs.Numbered.{entries_by as under}
 use Rattle.session_ops.specs.Numbers.{is_in, without_number}
 use Rattle.session_ops.specs.Structure.{change_of}
 use Rattle.session_ops.specs.Deeds.{Deed, Nothing, Edits, Changes, deed, noted}
@@ -321,6 +322,8 @@ pub record Legal (n0 : Parts) (h : List Entry) : Type 0 where
   pub replies : HasReplies (opening n0) [] h
 
 -- the entries under one number, in order
+abbrev pub by_of : Entry → ℕ
+by_of e = e.by
+
 abbrev pub entries_by : List Entry → ℕ → List Entry
-entries_by [] p = []
-entries_by (e ∷ es) p = if e.by == p then e ∷ entries_by es p else entries_by es p
+entries_by h p = under by_of p h

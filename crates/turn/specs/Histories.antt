@@ -1,13 +1,10 @@
 -- Lists of entries, each under a number, and what one turn does to such a list.
-use Rattle.std.specs.Prelude.{◌≡◌, ℕ, ◌≤◌, ◌⊎◌, ◌==◌, List, [], ◌∷◌, ◌++◌, length, drop, filter}
+use Rattle.std.specs.Prelude.{◌≡◌, ℕ, ◌≤◌, ◌⊎◌, List, [], ◌∷◌, ◌++◌, length, drop}
 use mathlib.Core.List.{IsPrefix}
+pub use Rattle.plain_list.specs.Numbered.{entries_by}
 
 -- For the list behind a lock, and for any other history whose entries each stand under a number.
 module _ {E : Type 0} (number_of : E → ℕ) where
-  -- the entries under the number p, in their order
-  abbrev pub entries_by : ℕ → List E → List E
-  entries_by p log = filter (λ e. number_of e == p) log
-
   -- the list stays as it is, or has one entry more, which stands under p
   abbrev pub Extends : ℕ → List E → List E → Type 0
   Extends p log log' = (log' ≡ log) ⊎ ((e : E) × (number_of e ≡ p) × (log' ≡ log ++ e ∷ []))
@@ -17,7 +14,7 @@ module _ {E : Type 0} (number_of : E → ℕ) where
     -- the list begins with what p has seen
     pub begins : IsPrefix seen log
     -- under p stand just the entries that p has seen there
-    pub own : entries_by p log ≡ entries_by p seen
+    pub own : entries_by number_of p log ≡ entries_by number_of p seen
     -- and the list has as many entries as p was told of
     pub known : least ≤ length log
 
@@ -31,4 +28,4 @@ module _ {E : Type 0} (number_of : E → ℕ) where
     -- what p has seen begins with what it had seen
     pub longer : IsPrefix seen seen'
     -- under p stand the old entries and the act's
-    pub own : entries_by p seen' ≡ entries_by p seen ++ drop (length found) seen'
+    pub own : entries_by number_of p seen' ≡ entries_by number_of p seen ++ drop (length found) seen'
