@@ -25,7 +25,8 @@ pub fn compose_runs(alloc: Global, first: &[Run], second: &[Run]) -> Result<Vec<
     requires first_runs { AllRuns first.now }
     requires second_runs { AllRuns second.now }
     requires reach { small_reach (composed_runs first.now second.now) ≤ 2 ^ 62 }
-    ensures { IfOk result (λ steps. steps.items ≡ packed (composed_runs first.now second.now)) }
+    ensures { IfOk result (λ steps. steps.items
+        ≡ packed (composed_runs first.now second.now)) }
 {
     let mut packer = Packer::new(alloc);
     let mut a = front_of(first);

@@ -30,7 +30,8 @@ pub fn transform_runs(
     requires left_runs { AllRuns left.now }
     requires right_runs { AllRuns right.now }
     requires reach { small_reach (transformed_runs right_first left.now right.now) ≤ 2 ^ 62 }
-    ensures { IfOk result (λ steps. steps.items ≡ packed (transformed_runs right_first left.now right.now)) }
+    ensures { IfOk result (λ steps. steps.items
+        ≡ packed (transformed_runs right_first left.now right.now)) }
 {
     let mut packer = Packer::new(alloc);
     let mut l = front_of(left);
