@@ -1,5 +1,5 @@
 -- Shelves and sinks in memory.
-use Rattle.std.specs.Prelude.{ℕ, ◌==◌, ◌||◌, if◌then◌else◌, Bool, List, ◌++◌, Vec, String, string_bytes, is_none}
+use Rattle.std.specs.Prelude.{ℕ, ◌==◌, ◌||◌, if◌then◌else◌, Bool, List, ◌++◌, Option, None, Vec, String, string_bytes, is_none}
 use Rattle.std.specs.List.{list_any}
 use Rattle.std.specs.declared.alloc.Global.{Global}
 use Rattle.book_outside.specs.Outside.{Reading, held_under, one_more, with_reading}
@@ -19,6 +19,10 @@ pub record OnShelf : Type 0 where
 -- whether the call of that number is one that fails
 abbrev pub is_listed : List ℕ → ℕ → Bool
 is_listed fail call = list_any (λ n. n == call) fail
+
+-- what the call of that number finds under the name: nothing where it is one that fails
+abbrev pub found_by : List ℕ → ℕ → List ℕ → List (List ℕ × List ℕ) → Option (List ℕ)
+found_by fail call name books = if is_listed fail call then None else held_under name books
 
 -- whether the next read of the name fails: where its call is listed, and where no book has the name
 abbrev pub read_fails : OnShelf → List ℕ → Bool

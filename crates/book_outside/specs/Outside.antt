@@ -1,7 +1,8 @@
 -- What shelves and sinks mean.
-use Rattle.std.specs.Prelude.{◌≡◌, ℕ, ◌+◌, ◌-◌, ◌^◌, ◌≤◌, ◌⊎◌, min, Bool, true, false, List, [], ◌∷◌, ◌++◌, take, find, Option, Some, IfSome, Result, Ok, Err}
+use Rattle.std.specs.Prelude.{◌≡◌, ℕ, ◌+◌, ◌-◌, ◌^◌, ◌≤◌, ◌⊎◌, min, Bool, true, false, if◌then◌else◌, List, [], ◌∷◌, ◌++◌, take, find, Option, Some, IfSome, Result, Ok, Err, is_err, Vec}
 use Rattle.std.specs.Option.{option_map}
 use Rattle.std.specs.Str.{bytes_eq}
+use Rattle.std.specs.declared.alloc.Global.{Global}
 use Rattle.book_outside.specs.declared.outside.ShelfError.{ShelfError}
 use Rattle.book_outside.specs.declared.outside.ShelfError.TheVariants.{Failed, OutOfMemory}
 
@@ -12,6 +13,10 @@ one_more n = min (n + 1) (2 ^ 64 - 1)
 -- a count that stands still at 2^64 - 1 has risen, or stands there
 abbrev pub Rose : ℕ → ℕ → Type 0
 Rose before now = one_more before ≤ now
+
+-- how often it has failed after a call with this answer: once more exactly where the answer is an error
+abbrev pub faults_after : {A E : Type 0} → Result A E → ℕ → ℕ
+faults_after result before = if is_err result then one_more before else before
 
 -- a read of a shelf: the name, and whether the read failed
 pub record Reading : Type 0 where
@@ -41,6 +46,10 @@ pub record IsFrontOf (books : List (List ℕ × List ℕ)) (name : List ℕ) (mo
 -- the same, where what is held is told
 abbrev pub GivesFront : Option (List (List ℕ × List ℕ)) → List ℕ → ℕ → List ℕ → Type 0
 GivesFront held name most given = IfSome held (λ books. IsFrontOf books name most given)
+
+-- the bytes that a read gives are such a front
+abbrev pub IsReadOf : Option (List (List ℕ × List ℕ)) → List ℕ → ℕ → Vec ℕ Global → Type 0
+IsReadOf held name most bytes = GivesFront held name most bytes.items
 
 -- where what was written is told: the bytes were put after it
 abbrev pub AppendsAll : Option (List ℕ) → List ℕ → Option (List ℕ) → Type 0

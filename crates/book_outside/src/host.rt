@@ -1,8 +1,8 @@
 //! Files and the standard output. Of their content no meaning is told: that they behave so isn't
 //! proved.
-ghost use Rattle.std.specs.Prelude.{◌≡◌, ◌≤◌, [], map, None, is_err, IfOk, OnOk, if◌then◌else◌, OnErr, IsErrOf};
-ghost use Rattle.book_outside.specs.Outside.{one_more, Rose, IsListed, GivesFront, AppendsAll};
-ghost use Rattle.book_outside.specs.Readings.{reading_of};
+ghost use Rattle.std.specs.Prelude.{◌≡◌, ◌≤◌, [], None, IfOk, OnOk, OnErr, IsErrOf};
+ghost use Rattle.book_outside.specs.Outside.{one_more, faults_after, Rose, IsListed, IsReadOf, AppendsAll};
+ghost use Rattle.book_outside.specs.Readings.{readings_of};
 
 use crate::outside::{Shelf, ShelfError, Sink, SinkError};
 use crate::readings::{NamedRead, fail_last, list_read};
@@ -22,13 +22,12 @@ pub struct HostShelf<'a, R: Files> {
 }
 
 impl<'a, R: Files> Model for HostShelf<'a, R> {
-    ghost use Rattle.std.specs.Prelude.{map};
     ghost use Rattle.book_outside.specs.Host.{OnFiles};
-    ghost use Rattle.book_outside.specs.Readings.{reading_of};
+    ghost use Rattle.book_outside.specs.Readings.{readings_of};
 
     ghost Value = { OnFiles };
 
-    ghost view = { λ s. record { readings = map reading_of s.reads.items; faults = s.faults } };
+    ghost view = { λ s. record { readings = readings_of s.reads.items; faults = s.faults } };
 }
 
 impl<'a, R: Files + AllocGlobal> HostShelf<'a, R> {
@@ -55,9 +54,9 @@ impl<R: Files> Shelf for HostShelf<'_, R> {
     /// faults. Where there is no memory to list the read, no file is touched.
     fn read(&mut self, alloc: Global, name: &str, most: u64) -> Result<Vec<u8>, ShelfError>
         // It isn't told what is held, so nothing is said of the bytes.
-        ensures untold { IfOk result (λ bytes. GivesFront None name.now most bytes.items) }
+        ensures untold { IfOk result (IsReadOf None name.now most) }
         ensures listed { IsListed self.old.readings name.now self.new.readings result }
-        ensures faults { self.new.faults ≡ (if is_err result then one_more self.old.faults else self.old.faults) }
+        ensures faults { self.new.faults ≡ faults_after result self.old.faults }
         ensures counts { self.old.faults ≤ self.new.faults }
         ensures failed { IsErrOf result ShelfError.Failed → Rose self.old.faults self.new.faults }
     {
@@ -79,7 +78,7 @@ fn listed_front<R: Files>(
     path: &str,
     most: u64,
 ) -> Result<Vec<u8>, ShelfError>
-    ensures { IsListed (map reading_of reads.old.items) path.now (map reading_of reads.new.items) result }
+    ensures { IsListed (readings_of reads.old.items) path.now (readings_of reads.new.items) result }
 {
     list_read(reads, alloc, path)?;
     match file_front(rt, alloc, path, most) {
@@ -142,7 +141,7 @@ impl<R: Print> Sink for HostSink<'_, R> {
         // It isn't told what is written, so nothing is said of the bytes.
         ensures untold { OnOk result (AppendsAll None bytes.now None) }
         ensures asked { self.new.calls ≡ one_more self.old.calls }
-        ensures faults { self.new.faults ≡ (if is_err result then one_more self.old.faults else self.old.faults) }
+        ensures faults { self.new.faults ≡ faults_after result self.old.faults }
         ensures never_memory { OnErr result (IsErrOf result SinkError.Failed) }
         ensures counts { self.old.faults ≤ self.new.faults }
         ensures failed { IsErrOf result SinkError.Failed → Rose self.old.faults self.new.faults }

@@ -1,8 +1,8 @@
 //! A shelf and two sinks in memory, for tests and tools.
-ghost use Rattle.std.specs.Prelude.{◌≡◌, ◌↔◌, ℕ, List, [], ◌++◌, Option, Some, None, ◌≤◌, ◌⊎◌, map, take, is_ok, if◌then◌else◌, IfOk, OnOk, OnErr, IsErrOf, IsTrue};
+ghost use Rattle.std.specs.Prelude.{◌≡◌, ◌↔◌, ℕ, List, [], ◌++◌, Option, Some, ◌≤◌, ◌⊎◌, map, take, is_ok, if◌then◌else◌, IfOk, OnOk, OnErr, IsErrOf, IsTrue};
 ghost use Rattle.std.specs.Option.{option_copied};
-ghost use Rattle.book_outside.specs.Outside.{held_under, one_more, IsListed, GivesFront, Rose};
-ghost use Rattle.book_outside.specs.Memory.{OnShelf, OnSink, OnPlainSink, entry_of, is_listed, read_fails, after_read, write_fails, after_write};
+ghost use Rattle.book_outside.specs.Outside.{held_under, one_more, IsListed, IsReadOf, Rose};
+ghost use Rattle.book_outside.specs.Memory.{OnShelf, OnSink, OnPlainSink, entry_of, is_listed, found_by, read_fails, after_read, write_fails, after_write};
 
 use crate::outside::{Shelf, ShelfError, Sink, SinkError};
 use crate::readings::{NamedRead, fail_last, list_read};
@@ -22,7 +22,7 @@ pub struct MemoryShelf {
 impl Model for MemoryShelf {
     ghost use Rattle.std.specs.Prelude.{map};
     ghost use Rattle.book_outside.specs.Memory.{OnShelf, entry_of};
-    ghost use Rattle.book_outside.specs.Readings.{reading_of};
+    ghost use Rattle.book_outside.specs.Readings.{readings_of};
 
     ghost Value = { OnShelf };
 
@@ -30,7 +30,7 @@ impl Model for MemoryShelf {
         record {
           books = map entry_of s.books.items;
           fail = s.fail.items;
-          readings = map reading_of s.reads.items;
+          readings = readings_of s.reads.items;
           calls = s.calls;
           faults = s.faults;
         } };
@@ -76,7 +76,7 @@ impl Shelf for MemoryShelf {
             → IsErrOf result ShelfError.Failed
             ⊎ ((self.new ≡ self.old) × IsErrOf result ShelfError.OutOfMemory) }
         ensures only { IsErrOf result ShelfError.Failed → IsTrue (read_fails self.old name.now) }
-        ensures front { IfOk result (λ bytes. GivesFront (Some self.old.books) name.now most bytes.items) }
+        ensures front { IfOk result (IsReadOf (Some self.old.books) name.now most) }
         ensures same { self.new.books ≡ self.old.books }
         ensures listed { IsListed self.old.readings name.now self.new.readings result }
         ensures counts { self.old.faults ≤ self.new.faults }
@@ -102,7 +102,7 @@ fn unless_listed<'a>(
     call: u64,
     name: &str,
 ) -> Option<&'a [u8]>
-    ensures { option_copied result ≡ (if is_listed fail.now call then None else held_under name.now (map entry_of books.now)) }
+    ensures { option_copied result ≡ found_by fail.now call name.now (map entry_of books.now) }
 {
     if is_listed(fail, call) {
         return None;

@@ -1,6 +1,6 @@
 //! Shelves and sinks, by what they hold and how often they have failed.
 ghost use Rattle.std.specs.Prelude.{◌≡◌, ◌≤◌, ◌++◌, ℕ, List, Option, Some, IfOk, OnOk, IfSome, IsErrOf};
-ghost use Rattle.book_outside.specs.Outside.{Reading, IsListed, one_more, Rose, GivesFront, AppendsAll, AppendsFront};
+ghost use Rattle.book_outside.specs.Outside.{Reading, IsListed, one_more, Rose, IsReadOf, AppendsAll, AppendsFront};
 ghost use Rattle.book_outside.specs.declared.outside.ShelfError.TheVariants.{OutOfMemory as ShelfMemory};
 ghost use Rattle.book_outside.specs.declared.outside.SinkError.TheVariants.{OutOfMemory as SinkMemory};
 
@@ -62,11 +62,12 @@ pub trait Shelf {
     /// The read is listed under its name, as failed exactly after `Failed`. After want of memory it is
     /// listed as one that didn't fail, or not at all.
     fn read(&mut self, alloc: Global, name: &str, most: u64) -> Result<Vec<u8>, ShelfError>
-        ensures front { IfOk result (λ bytes. GivesFront (held self.old) name.now most bytes.items) }
+        ensures front { IfOk result (IsReadOf (held self.old) name.now most) }
         ensures same { held self.new ≡ held self.old }
         ensures listed { IsListed (reads self.old) name.now (reads self.new) result }
         ensures counts { faults self.old ≤ faults self.new }
-        ensures failed { IsErrOf result ShelfError.Failed → Rose (faults self.old) (faults self.new) };
+        ensures failed { IsErrOf result ShelfError.Failed
+            → Rose (faults self.old) (faults self.new) };
 }
 
 /// Where output goes.
@@ -83,10 +84,14 @@ pub trait Sink {
     /// Writes the bytes. After `Failed` a front of them may have been written, after want of memory
     /// nothing was. A sink that takes nothing of bytes that aren't empty has failed.
     fn write(&mut self, bytes: &[u8]) -> Result<(), SinkError>
-        ensures appended { OnOk result (AppendsAll (written self.old) bytes.now (written self.new)) }
-        ensures part { IsErrOf result SinkError.Failed → AppendsFront (written self.old) bytes.now (written self.new) }
-        ensures memory { IsErrOf result SinkError.OutOfMemory → written self.new ≡ written self.old }
+        ensures appended { OnOk result
+            (AppendsAll (written self.old) bytes.now (written self.new)) }
+        ensures part { IsErrOf result SinkError.Failed
+            → AppendsFront (written self.old) bytes.now (written self.new) }
+        ensures memory { IsErrOf result SinkError.OutOfMemory
+            → written self.new ≡ written self.old }
         ensures asked { writes self.new ≡ one_more (writes self.old) }
         ensures counts { faults self.old ≤ faults self.new }
-        ensures failed { IsErrOf result SinkError.Failed → Rose (faults self.old) (faults self.new) };
+        ensures failed { IsErrOf result SinkError.Failed
+            → Rose (faults self.old) (faults self.new) };
 }

@@ -1,7 +1,7 @@
 //! The reads of a shelf, as it keeps them.
-ghost use Rattle.std.specs.Prelude.{◌≡◌, ℕ, List, map, true, false, is_ok, if◌then◌else◌};
+ghost use Rattle.std.specs.Prelude.{◌≡◌, ℕ, List, true, false, is_ok, if◌then◌else◌};
 ghost use Rattle.book_outside.specs.Outside.{Reading, with_reading};
-ghost use Rattle.book_outside.specs.Readings.{reading_of};
+ghost use Rattle.book_outside.specs.Readings.{readings_of};
 
 use std::alloc::{AllocError, Global};
 
@@ -18,9 +18,9 @@ pub(crate) fn list_read(
     alloc: Global,
     name: &str,
 ) -> Result<(), AllocError>
-    ensures { map reading_of reads.new.items
-        ≡ (if is_ok result then with_reading (map reading_of reads.old.items) name.now false
-        else map reading_of reads.old.items) }
+    ensures { readings_of reads.new.items
+        ≡ (if is_ok result then with_reading (readings_of reads.old.items) name.now false
+        else readings_of reads.old.items) }
 {
     let name = String::from_str(alloc, name)?;
     reads.push(NamedRead {
@@ -33,8 +33,8 @@ pub(crate) fn list_read(
 /// The read that was listed last failed.
 pub(crate) fn fail_last(reads: &mut Vec<NamedRead>)
     ensures { (before : List Reading) (name : List ℕ)
-        → map reading_of reads.old.items ≡ with_reading before name false
-        → map reading_of reads.new.items ≡ with_reading before name true }
+        → readings_of reads.old.items ≡ with_reading before name false
+        → readings_of reads.new.items ≡ with_reading before name true }
 {
     if let Some(last) = reads.last_mut() {
         last.failed = true;

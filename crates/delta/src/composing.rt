@@ -2,8 +2,7 @@
 ghost use Rattle.std.specs.Prelude.{◌≡◌, ◌^◌, ◌≤◌, [], true, false, IfOk};
 ghost use Rattle.delta.specs.Spread.{small_reach};
 ghost use Rattle.delta.specs.Pack.{packed};
-ghost use Rattle.delta.specs.Compose.{composed_small};
-ghost use Rattle.delta.specs.Runs.{AllRuns, all_runs};
+ghost use Rattle.delta.specs.Runs.{AllRuns, composed_runs};
 ghost use Rattle.delta.specs.Fronts.{IsFront, HasRun, is_new, is_gone};
 ghost use Rattle.delta.specs.Turns.{IsJoinTurn, IsJoined};
 ghost use Rattle.delta.specs.declared.front.Head.TheVariants.{End};
@@ -25,8 +24,9 @@ struct Turn<'a> {
 pub fn compose_runs(alloc: Global, first: &[Run], second: &[Run]) -> Result<Vec<Step>, AllocError>
     requires first_runs { AllRuns first.now }
     requires second_runs { AllRuns second.now }
-    requires reach { small_reach (composed_small (all_runs first.now) (all_runs second.now)) ≤ 2 ^ 62 }
-    ensures { IfOk result (λ steps. steps.items ≡ packed (composed_small (all_runs first.now) (all_runs second.now))) }
+    requires reach { small_reach (composed_runs first.now second.now) ≤ 2 ^ 62 }
+    ensures { IfOk result (λ steps. steps.items
+        ≡ packed (composed_runs first.now second.now)) }
 {
     let mut packer = Packer::new(alloc);
     let mut a = front_of(first);

@@ -179,7 +179,9 @@ impl Delta {
     /// It answers `PastEnd` exactly where the reach is above the text's length, and else `SplitsPair`
     /// exactly where a cut, the old place after a step, stands between the two units of one character.
     pub fn apply(&self, alloc: Global, text: &Text) -> Result<Text, ApplyError>
-        ensures { MatchResult result (IsApplied self.now text.now) (IsApplyCause self.now text.now) }
+        ensures { MatchResult result
+            (IsApplied self.now text.now)
+            (IsApplyCause self.now text.now) }
     {
         let len = text.unit_len();
         if len < self.reach {
@@ -315,7 +317,9 @@ fn part(rest: &str, n: u64, at: u64) -> Result<(&str, &str), ApplyError>
 /// Adds a piece of so many units.
 fn push(made: &mut Text, piece: &str, units: u64) -> Result<(), ApplyError>
     requires { units ≡ unit_count (chars piece.now) }
-    ensures { MatchResult result (λ _. made.new ≡ made.old ++ chars piece.now) (λ e. e ≡ ApplyError.OutOfMemory) }
+    ensures { MatchResult result
+        (λ _. made.new ≡ made.old ++ chars piece.now)
+        (λ e. e ≡ ApplyError.OutOfMemory) }
 {
     match made.push_counted(piece, units) {
         Ok(()) => Ok(()),

@@ -2,8 +2,7 @@
 ghost use Rattle.std.specs.Prelude.{◌≡◌, ◌^◌, ◌≤◌, [], true, false, not, ◌&&◌, ◌||◌, IfOk};
 ghost use Rattle.delta.specs.Spread.{small_reach};
 ghost use Rattle.delta.specs.Pack.{packed};
-ghost use Rattle.delta.specs.Transform.{transformed_small};
-ghost use Rattle.delta.specs.Runs.{AllRuns, all_runs};
+ghost use Rattle.delta.specs.Runs.{AllRuns, transformed_runs};
 ghost use Rattle.delta.specs.Fronts.{IsFront, is_new};
 ghost use Rattle.delta.specs.Turns.{IsMoveTurn, moved_piece};
 ghost use Rattle.delta.specs.declared.front.Head.TheVariants.{End};
@@ -30,8 +29,9 @@ pub fn transform_runs(
 ) -> Result<Vec<Step>, AllocError>
     requires left_runs { AllRuns left.now }
     requires right_runs { AllRuns right.now }
-    requires reach { small_reach (transformed_small right_first (all_runs left.now) (all_runs right.now)) ≤ 2 ^ 62 }
-    ensures { IfOk result (λ steps. steps.items ≡ packed (transformed_small right_first (all_runs left.now) (all_runs right.now))) }
+    requires reach { small_reach (transformed_runs right_first left.now right.now) ≤ 2 ^ 62 }
+    ensures { IfOk result (λ steps. steps.items
+        ≡ packed (transformed_runs right_first left.now right.now)) }
 {
     let mut packer = Packer::new(alloc);
     let mut l = front_of(left);

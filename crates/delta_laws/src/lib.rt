@@ -12,10 +12,10 @@ ghost use Rattle.std.specs.Prelude.{◌≡◌, ◌<◌, ◌↔◌, [], true, fal
 ghost use Rattle.utf16_text.specs.Units.{unit_count};
 ghost use Rattle.delta.specs.Canonical.{is_proper, is_retain};
 ghost use Rattle.delta.specs.Steps.{reach_of};
-ghost use Rattle.delta.specs.Moves.{FitsText, text_after, composed, transformed};
+ghost use Rattle.delta.specs.Moves.{FitsText, text_after, composed};
 ghost use Rattle.delta_laws.specs.Ends.{is_felt, ends_felt};
 ghost use Rattle.delta_laws.specs.Laws.{IsNothing};
-ghost use Rattle.delta_laws.specs.Pairs.{IsBothOrders, IsInTwo};
+ghost use Rattle.delta_laws.specs.Pairs.{IsBothOrders, IsInTwo, text_in_order};
 
 mod room;
 
@@ -89,7 +89,8 @@ fn ends_felt(delta: &Delta) -> bool
 /// Whether a step puts a unit in or drops one.
 fn is_felt(step: &Step) -> bool
     ensures value { result ≡ is_felt step.now }
-    ensures some { is_proper step.now ≡ true → is_retain step.now ≡ false → result ≡ true }
+    ensures some { is_proper step.now ≡ true → is_retain step.now ≡ false
+        → result ≡ true }
 {
     match step {
         Step::Retain(_) => false,
@@ -101,7 +102,7 @@ fn is_felt(step: &Step) -> bool
 fn a_first(alloc: Global, text: &Text, a: &Delta, b: &Delta) -> Result<Text, AllocError>
     requires a_fits { FitsText a.now text.now }
     requires b_fits { FitsText b.now text.now }
-    ensures { IfOk result (λ t. t ≡ text_after (transformed false a.now b.now) (text_after a.now text.now)) }
+    ensures { IfOk result (λ t. t ≡ text_in_order false a.now b.now text.now) }
 {
     let after = applied(alloc, a, text)?;
     let moved = transformed(alloc, a, b, Side::Left)?;
@@ -111,7 +112,7 @@ fn a_first(alloc: Global, text: &Text, a: &Delta, b: &Delta) -> Result<Text, All
 fn b_first(alloc: Global, text: &Text, a: &Delta, b: &Delta) -> Result<Text, AllocError>
     requires a_fits { FitsText a.now text.now }
     requires b_fits { FitsText b.now text.now }
-    ensures { IfOk result (λ t. t ≡ text_after (transformed true b.now a.now) (text_after b.now text.now)) }
+    ensures { IfOk result (λ t. t ≡ text_in_order true b.now a.now text.now) }
 {
     let after = applied(alloc, b, text)?;
     let moved = transformed(alloc, b, a, Side::Right)?;

@@ -1,6 +1,7 @@
 -- What a change makes of a notebook, or the first refusal that applies.
 use Rattle.std.specs.Prelude.{◌≡◌, ℕ, ◌+◌, ◌==◌, ◌&&◌, ◌||◌, not, nat_lt, Bool, true, false, if◌then◌else◌, List, [], ◌∷◌, ◌++◌, length, insert, find, Option, Some, None, Result, Ok, Err}
 use Rattle.std.specs.List.{list_any}
+use Rattle.limits.specs.Limits.{most_sections, most_cells, most_code_cells}
 use Rattle.notebook.specs.declared.parts.Cell.{Cell}
 use Rattle.notebook.specs.declared.parts.Section.{Section}
 use Rattle.notebook.specs.declared.parts.Parts.{Parts}
@@ -99,9 +100,9 @@ parents_first_after before (s ∷ ss) = stands_after before s.parent && parents_
 abbrev pub parents_first : List Section → Bool
 parents_first ss = parents_first_after [] ss
 
--- whether one cell more of the kind would pass a limit: 4,000 cells, 1,000 code cells among them
+-- whether one cell more of the kind would pass a limit: that of the cells, or of the code cells among them
 abbrev pub is_full : Parts → Kind → Bool
-is_full n kind = nat_lt 4000 (length (section_cells n) + 1) || nat_lt 1000 (code_count (section_cells n) + code_weight kind)
+is_full n kind = nat_lt most_cells (length (section_cells n) + 1) || nat_lt most_code_cells (code_count (section_cells n) + code_weight kind)
 
 -- what a new cell and a new section are
 abbrev pub kind_of : CellKind → Kind
@@ -117,7 +118,7 @@ new_section id name = record { id = id; name = name; before = []; parent = None;
 -- a new section at an index
 abbrev pub insert_section : Parts → ℕ → List ℕ → Attempt
 insert_section n index name =
-    if nat_lt (length n.sections) index then Fails (BadIndex (length n.sections)) else (if nat_lt 1000 (length n.sections + 1) then Fails TooManySections else Makes (record n { sections = insert n.sections index (new_section n.next_section name); next_section = n.next_section + 1 }) (NewSection n.next_section))
+    if nat_lt (length n.sections) index then Fails (BadIndex (length n.sections)) else (if nat_lt most_sections (length n.sections + 1) then Fails TooManySections else Makes (record n { sections = insert n.sections index (new_section n.next_section name); next_section = n.next_section + 1 }) (NewSection n.next_section))
 
 -- a section with another name
 abbrev pub set_section_name : Parts → ℕ → List ℕ → Attempt

@@ -10,6 +10,7 @@ use Rattle.notebook.specs.declared.parts.Kind.{Kind}
 use Rattle.notebook.specs.declared.parts.Kind.TheVariants.{Setup, Code, Markdown}
 use Rattle.notebook.specs.declared.states.Lane.{Lane}
 use Rattle.notebook.specs.declared.states.Lane.TheVariants.{Main, Branch}
+use Rattle.notebook.specs.Rules.{cell_number}
 
 -- code of a section
 abbrev pub is_code_kind : Kind → Bool
@@ -64,10 +65,14 @@ abbrev pub branch_cells : List Section → Option Section → List Cell
 branch_cells ss None = []
 branch_cells ss (Some branch) = stem_cells ss branch.parent ++ section_code branch
 
+-- the same by the branch's number
+abbrev pub numbered_branch_cells : List Section → ℕ → List Cell
+numbered_branch_cells ss branch = branch_cells ss (find (is_section branch) ss)
+
 -- what is evaluated one after the other in a lane: the setup cell first, in a branch then what stands before it
 abbrev pub lane_cells : Parts → Lane → List Cell
 lane_cells n Main = n.setup ∷ main_cells n.sections
-lane_cells n (Branch section) = n.setup ∷ branch_cells n.sections (find (is_section section) n.sections)
+lane_cells n (Branch section) = n.setup ∷ numbered_branch_cells n.sections section
 
 -- the lane of a section's code
 abbrev pub lane_by : ℕ → Option ℕ → Lane
@@ -94,6 +99,14 @@ flow_in n id lane = up_to (is_cell id) (lane_cells n lane)
 
 abbrev pub flow : Parts → ℕ → Option (List Cell)
 flow n id = option_map (flow_in n id) (lane_of n id)
+
+-- the numbers of some cells up to and with that of the number
+abbrev pub numbers_up_to : ℕ → List Cell → List ℕ
+numbers_up_to id cs = map cell_number (up_to (is_cell id) cs)
+
+-- the numbers of the cells of the flow
+abbrev pub flow_numbers : Parts → ℕ → Option (List ℕ)
+flow_numbers n id = option_map (map cell_number) (flow n id)
 
 -- a cell that an evaluation passes, with the source that the cell has
 abbrev pub passed : Cell → Passed

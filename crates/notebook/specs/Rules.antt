@@ -1,6 +1,7 @@
 -- The rules that each notebook keeps.
 use Rattle.std.specs.Prelude.{◌≡◌, ℕ, ◌+◌, ◌<◌, ◌≤◌, List, [], ◌∷◌, ◌++◌, length, map, Option, Some, None, Contains}
 use Rattle.std.specs.List.{AllByRecursion}
+use Rattle.limits.specs.Limits.{most_sections, most_cells, most_code_cells, numbers_end}
 use Rattle.notebook.specs.declared.parts.Cell.{Cell}
 use Rattle.notebook.specs.declared.parts.Section.{Section}
 use Rattle.notebook.specs.declared.parts.Parts.{Parts}
@@ -66,6 +67,10 @@ pub record IsNotebook (n : Parts) : Type 0 where
   pub section_numbers : AreDistinct (0 ∷ map section_number n.sections)
   pub next_section : AllByRecursion (IsBelow n.next_section) (0 ∷ map section_number n.sections)
   pub parents : ParentsStand [] n.sections
-  pub few_sections : length n.sections ≤ 1000
-  pub few_cells : length (section_cells n) ≤ 4000
-  pub few_code_cells : code_count (section_cells n) ≤ 1000
+  pub few_sections : length n.sections ≤ most_sections
+  pub few_cells : length (section_cells n) ≤ most_cells
+  pub few_code_cells : code_count (section_cells n) ≤ most_code_cells
+
+-- there are numbers for one cell more and one section more
+abbrev pub HasNumbers : Parts → Type 0
+HasNumbers n = (n.next_cell < numbers_end) × (n.next_section < numbers_end)

@@ -88,7 +88,9 @@ impl<'a> FlowCells<'a> {
 
     /// The first of the cells, and those after it; `None` exactly where none is left.
     pub fn next(self) -> Option<(&'a Cell, FlowCells<'a>)>
-        ensures { MatchOption result (left self.entry ≡ []) (λ p. left self.entry ≡ p.0.now ∷ left p.1) }
+        ensures { MatchOption result
+            (left self.entry ≡ [])
+            (λ p. left self.entry ≡ p.0.now ∷ left p.1) }
     {
         if let Some(cell) = self.setup {
             return Some((
@@ -119,7 +121,9 @@ impl<'a> FlowCells<'a> {
 
 /// The first code cell of some cells, and the cells after it.
 fn next_code(cells: &[Cell]) -> Option<(&Cell, &[Cell])>
-    ensures { MatchOption result (code_cells cells.now ≡ []) (λ p. code_cells cells.now ≡ p.0.now ∷ code_cells p.1.now) }
+    ensures { MatchOption result
+        (code_cells cells.now ≡ [])
+        (λ p. code_cells cells.now ≡ p.0.now ∷ code_cells p.1.now) }
 {
     for (at, cell) in cells.iter().enumerate() {
         if cell.is_code() {
@@ -132,7 +136,9 @@ fn next_code(cells: &[Cell]) -> Option<(&Cell, &[Cell])>
 /// The first code cell of some sections of which those count that branch from none, the cells after
 /// it in its section, and the sections after that.
 fn next_main(sections: &[Section]) -> Option<(&Cell, &[Cell], &[Section])>
-    ensures { MatchOption result (main_cells sections.now ≡ []) (λ p. main_cells sections.now ≡ p.0.now ∷ (code_cells p.1.now ++ main_cells p.2.now)) }
+    ensures { MatchOption result
+        (main_cells sections.now ≡ [])
+        (λ p. main_cells sections.now ≡ p.0.now ∷ (code_cells p.1.now ++ main_cells p.2.now)) }
 {
     for (at, section) in sections.iter().enumerate() {
         if let Some((cell, open)) = next_in(section) {
@@ -144,7 +150,9 @@ fn next_main(sections: &[Section]) -> Option<(&Cell, &[Cell], &[Section])>
 
 /// The first code cell of a section that branches from none, and the cells after it.
 fn next_in(section: &Section) -> Option<(&Cell, &[Cell])>
-    ensures { MatchOption result (main_cells (section.now ∷ []) ≡ []) (λ p. main_cells (section.now ∷ []) ≡ p.0.now ∷ code_cells p.1.now) }
+    ensures { MatchOption result
+        (main_cells (section.now ∷ []) ≡ [])
+        (λ p. main_cells (section.now ∷ []) ≡ p.0.now ∷ code_cells p.1.now) }
 {
     if section.parent.is_some() {
         return None;
@@ -154,7 +162,9 @@ fn next_in(section: &Section) -> Option<(&Cell, &[Cell])>
 
 /// The first code cell of the number.
 fn cut_at(cells: &[Cell], id: CellId) -> Option<Cut<'_>>
-    ensures { MatchOption result (list_any (is_code_numbered id) cells.now ≡ false) (IsCut cells.now id) }
+    ensures { MatchOption result
+        (list_any (is_code_numbered id) cells.now ≡ false)
+        (IsCut cells.now id) }
 {
     for (at, cell) in cells.iter().enumerate() {
         if cell.is_code() && cell.id == id {
@@ -170,7 +180,9 @@ fn cut_at(cells: &[Cell], id: CellId) -> Option<Cut<'_>>
 
 /// The first section that has a code cell of the number.
 fn home_of(sections: &[Section], id: CellId) -> Option<Home<'_>>
-    ensures { MatchOption result (find (has_code id) sections.now ≡ None) (IsHome sections.now id) }
+    ensures { MatchOption result
+        (find (has_code id) sections.now ≡ None)
+        (IsHome sections.now id) }
 {
     for (at, section) in sections.iter().enumerate() {
         if let Some(cut) = cut_at(section.cells.as_slice(), id) {
@@ -186,7 +198,8 @@ fn home_of(sections: &[Section], id: CellId) -> Option<Home<'_>>
 
 /// The sections of which the main code stands before that of a section.
 fn front_of<'a>(sections: &'a [Section], home: &Home<'a>) -> &'a [Section]
-    ensures { result.now ≡ sections_before sections.now home.now.front.now home.now.section.now.parent }
+    ensures { result.now
+        ≡ sections_before sections.now home.now.front.now home.now.section.now.parent }
 {
     match home.section.parent {
         None => home.front,

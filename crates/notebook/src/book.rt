@@ -1,11 +1,11 @@
 //! A notebook that keeps its rules.
-ghost use Rattle.std.specs.Prelude.{◌≡◌, ◌↔◌, ◌<◌, ◌^◌, IsTrue, IfOk, IfErr, OnErr, MatchOption, None, map};
+ghost use Rattle.std.specs.Prelude.{◌≡◌, ◌↔◌, ◌<◌, ◌^◌, IsTrue, IfOk, IfErr, OnErr, MatchOption, None};
 ghost use Rattle.std.specs.Bool.{OnFalse};
-ghost use Rattle.std.specs.Option.{option_copied, option_map};
+ghost use Rattle.std.specs.Option.{option_copied};
 ghost use Rattle.notebook.specs.Book.{cells, found, IsLive, with_source, untitled};
-ghost use Rattle.notebook.specs.Rules.{IsNotebook, cell_number};
+ghost use Rattle.notebook.specs.Rules.{IsNotebook, HasNumbers};
 ghost use Rattle.notebook.specs.Change.{Makes, Refuses, change};
-ghost use Rattle.notebook.specs.Flow.{lane_of, lane_cells, flow};
+ghost use Rattle.notebook.specs.Flow.{lane_of, lane_cells, flow_numbers};
 ghost use Rattle.notebook.specs.Seen.{seen};
 ghost use Rattle.notebook.specs.Before.{IsBefore};
 ghost use Rattle.notebook.specs.declared.states.PathError.TheVariants.{NoCell};
@@ -115,7 +115,7 @@ impl Notebook {
     /// Whether there are numbers for one more cell and one more section, as in each notebook that a
     /// machine holds. It takes no memory.
     pub fn has_numbers(&self) -> bool
-        ensures { IsTrue result ↔ ((self.now.next_cell < 2 ^ 63) × (self.now.next_section < 2 ^ 63)) }
+        ensures { IsTrue result ↔ HasNumbers self.now }
     {
         self.parts.next_cell < NUMBERS_END && self.parts.next_section < NUMBERS_END
     }
@@ -182,7 +182,7 @@ impl Notebook {
     /// the cell itself. The setup cell's path is itself. [`PathError::NoCell`] exactly where no live setup
     /// or code cell has the number.
     pub fn path(&self, alloc: Global, cell: CellId) -> Result<Vec<CellId>, PathError>
-        ensures path { IfOk result (λ ids. Some ids.items ≡ option_map (map cell_number) (flow self.now cell)) }
+        ensures path { IfOk result (λ ids. Some ids.items ≡ flow_numbers self.now cell) }
         ensures no_cell { (result ≡ Err NoCell) ↔ (lane_of self.now cell ≡ None) }
     {
         let Some(lane) = self.lane(cell) else {

@@ -30,7 +30,9 @@ pub fn place_in(cells: &[Cell], id: CellId) -> Option<usize>
 
 /// The place of the first cell of some sections that has the number.
 pub fn place_of(sections: &[Section], id: CellId) -> Option<Place>
-    ensures { MatchOption result (found id (flat_map cells_of sections.now) ≡ None) (λ p. IsPlace sections.now id p.section p.cell) }
+    ensures { MatchOption result
+        (found id (flat_map cells_of sections.now) ≡ None)
+        (λ p. IsPlace sections.now id p.section p.cell) }
 {
     for (section, it) in sections.iter().enumerate() {
         if let Some(cell) = place_in(it.cells.as_slice(), id) {

@@ -1,9 +1,8 @@
 //! The lanes of evaluation, and the cells that come before a cell in its lane.
-ghost use Rattle.std.specs.Prelude.{◌≡◌, ◌++◌, ◌∷◌, IfOk, OnOk, find, map};
+ghost use Rattle.std.specs.Prelude.{◌≡◌, ◌++◌, ◌∷◌, IfOk, OnOk, find};
 ghost use Rattle.std.specs.Option.{option_copied, option_map};
-ghost use Rattle.notebook.specs.Flow.{branch_cells, code_cells, has_code, is_cell, is_section, main_cells, section_lane, up_to};
+ghost use Rattle.notebook.specs.Flow.{code_cells, has_code, is_section, main_cells, numbered_branch_cells, numbers_up_to, section_lane, up_to};
 ghost use Rattle.notebook.specs.Seen.{seen};
-ghost use Rattle.notebook.specs.Rules.{cell_number};
 
 use crate::parts::{Cell, CellId, Section, SectionId};
 use crate::states::Lane;
@@ -79,7 +78,8 @@ pub fn push_branch<'a>(
     sections: &'a [Section],
     branch: SectionId,
 ) -> Result<(), AllocError>
-    ensures { OnOk result (seen lane.new.items ≡ seen lane.old.items ++ branch_cells sections.now (find (is_section branch) sections.now)) }
+    ensures { OnOk result (seen lane.new.items
+        ≡ seen lane.old.items ++ numbered_branch_cells sections.now branch) }
 {
     let Some(branch) = section_of(sections, branch) else {
         return Ok(());
@@ -92,7 +92,7 @@ pub fn push_branch<'a>(
 
 /// The numbers of the cells up to and with the first that has the number; of all where none has.
 pub fn numbers_up_to(alloc: Global, cells: &[&Cell], id: CellId) -> Result<Vec<CellId>, AllocError>
-    ensures { IfOk result (λ ids. ids.items ≡ map cell_number (up_to (is_cell id) (seen cells.now))) }
+    ensures { IfOk result (λ ids. ids.items ≡ numbers_up_to id (seen cells.now)) }
 {
     let mut ids = Vec::new(alloc);
     for cell in cells {

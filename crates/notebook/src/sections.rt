@@ -73,7 +73,8 @@ pub fn may_stand(sections: &[Section], at: usize, index: usize) -> bool
     requires index { index < length sections.now }
     requires few { length sections.now ≤ 1000 }
     requires ordered { AreOrdered sections.now }
-    ensures { (s : Section) → slice_get sections.now at ≡ Some s → result ≡ parents_first (insert (remove sections.now at) index s) }
+    ensures { (s : Section) → slice_get sections.now at ≡ Some s
+        → result ≡ parents_first (insert (remove sections.now at) index s) }
 {
     let before = &sections[..end_before(at, index)];
     let section = &sections[at];

@@ -1,8 +1,8 @@
 //! The deltas that a client may still build on.
 ghost use Rattle.std.specs.Prelude.{◌≡◌, ◌++◌, ◌∷◌, [], List, ℕ, drop, false, OnOk, OnErr, IfOk};
 ghost use Rattle.utf16_text.specs.Units.{unit_count};
-ghost use Rattle.delta.specs.Moves.{transformed, over};
-ghost use Rattle.revisions.specs.Kept.{deltas_of, LeadsTo, HaveLens};
+ghost use Rattle.delta.specs.Moves.{transformed};
+ghost use Rattle.revisions.specs.Kept.{over_kept, IfTheyLead};
 
 use delta::{Delta, Side};
 use delta_laws::transformed;
@@ -62,8 +62,8 @@ impl KeptDeltas {
     /// The length of the text before the kept delta at a place, in UTF-16 units; behind the last one
     /// that of the present text.
     pub(crate) fn len_at(&self, at: usize, text: &Text) -> u64
-        ensures { (t : List ℕ) → let rest = drop at self.now in HaveLens t rest → LeadsTo t (deltas_of rest) text.now →
-            result ≡ unit_count t }
+        ensures { (t : List ℕ) → IfTheyLead t (drop at self.now) text.now
+            (result ≡ unit_count t) }
     {
         match self.kept.get(at) {
             Some(kept) => kept.len,
@@ -78,7 +78,7 @@ impl KeptDeltas {
         delta: &Delta,
         from: usize,
     ) -> Result<Delta, AllocError>
-        ensures { IfOk result (λ moved. moved ≡ over delta.now (deltas_of (drop from self.now))) }
+        ensures { IfOk result (λ moved. moved ≡ over_kept delta.now from self.now) }
     {
         moved_over(alloc, delta, &self.kept, from)
     }
@@ -90,7 +90,7 @@ fn moved_over(
     kept: &VecDeque<Kept>,
     from: usize,
 ) -> Result<Delta, AllocError>
-    ensures { IfOk result (λ moved. moved ≡ over delta.now (deltas_of (drop from kept.now.items))) }
+    ensures { IfOk result (λ moved. moved ≡ over_kept delta.now from kept.now.items) }
 {
     let mut moved = delta.copy(alloc)?;
     for at in from..kept.len() {

@@ -1,9 +1,8 @@
 //! Deltas that were moved to the present text.
 ghost use Rattle.std.specs.Prelude.{◌≡◌, ◌<◌, ◌↔◌, List, ℕ, drop, IsTrue, MatchResult};
 ghost use Rattle.delta.specs.Steps.{reach_of};
-ghost use Rattle.delta.specs.Moves.{over};
 ghost use Rattle.delta_laws.specs.Ends.{ends_felt};
-ghost use Rattle.revisions.specs.Kept.{deltas_of, LeadsTo, HaveLens};
+ghost use Rattle.revisions.specs.Kept.{over_kept, IfTheyLead};
 ghost use Rattle.revisions.specs.Moved.{BecomesMove, IsMoveCause};
 
 use crate::errors::RevError;
@@ -47,10 +46,9 @@ pub(crate) fn move_on(
     from: usize,
     text: &Text,
 ) -> Result<Move, RevError>
-    ensures { (t : List ℕ) → let rest = drop from kept.now in HaveLens t rest → LeadsTo t (deltas_of rest) text.now →
-        let x = over delta.now (deltas_of rest) in MatchResult result
-        (BecomesMove delta.now x t text.now)
-        (IsMoveCause delta.now x t text.now) }
+    ensures { (t : List ℕ) → IfTheyLead t (drop from kept.now) text.now (MatchResult result
+        (BecomesMove delta.now (over_kept delta.now from kept.now) t text.now)
+        (IsMoveCause delta.now (over_kept delta.now from kept.now) t text.now)) }
 {
     let len = kept.len_at(from, text);
     if reaches_past_len(alloc, delta, len) {

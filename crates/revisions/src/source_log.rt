@@ -2,7 +2,7 @@
 ghost use Rattle.std.specs.Prelude.{◌≡◌, ◌≤◌, false, IfOk, IfErr, OnOk, OnErr, MatchResult};
 ghost use Rattle.revisions.specs.Answer.{IsCause, IsHonest, IsReportCause};
 ghost use Rattle.revisions.specs.Floors.{has_floor};
-ghost use Rattle.revisions.specs.Log.{Holds, HasTaken, IsLog, IsTaken};
+ghost use Rattle.revisions.specs.Log.{Holds, HasTaken, KeepsMove, IsLog, IsTaken, let_go};
 ghost use Rattle.revisions.specs.Moved.{IsMove, IsMoved};
 ghost use Rattle.revisions.specs.Source.{Source, begun, rev_of, least_of, reporting, joining, leaving};
 
@@ -89,8 +89,8 @@ impl SourceLog {
         ensures answer { (s : Source) → IsLog s self.old → MatchResult result
             (λ a. IsTaken s client base delta.now a self.new)
             (IsCause s base delta.now) }
-        ensures honest { (s : Source) → IsLog s self.old → IsHonest s client base delta.now → IfErr result
-            (λ e. e ≡ RevError.OutOfMemory) }
+        ensures honest { (s : Source) → IsLog s self.old → IsHonest s client base delta.now
+            → IfErr result (λ e. e ≡ RevError.OutOfMemory) }
         ensures err { OnErr result (self.new ≡ self.old) }
     {
         let moved = match self.moved(alloc, base, delta) {
@@ -126,9 +126,12 @@ impl SourceLog {
 
     /// Takes a client's delta as [`moved`](SourceLog::moved) made it of the present text. The client's
     /// floor is then the new revision. After want of memory the log is as it was.
+    ///
+    /// A move that was made of another text is taken as it is: the log then has that move's text.
     pub fn take(&mut self, alloc: Global, client: u32, moved: Move) -> Result<Accepted, AllocError>
         ensures ok { (s : Source) → IsLog s self.old → IsMove s.text moved → IfOk result
             (λ a. HasTaken s client moved.delta a self.new) }
+        ensures any { IfOk result (λ a. KeepsMove client moved self.old a self.new) }
         ensures err { OnErr result (self.new ≡ self.old) }
     {
         let Some(rev) = self.rev.checked_add(1) else {
@@ -167,7 +170,8 @@ impl SourceLog {
     /// Notes that a client joins: its floor is the present revision, also where it has joined already.
     /// After an error the log is as it was.
     pub fn joined(&mut self, client: u32) -> Result<(), AllocError>
-        ensures ok { (s : Source) → IsLog s self.old → OnOk result (IsLog (joining client s) self.new) }
+        ensures ok { (s : Source) → IsLog s self.old → OnOk result
+            (IsLog (joining client s) self.new) }
         ensures err { OnErr result (self.new ≡ self.old) }
     {
         self.floors.put(client, self.rev)?;
@@ -179,8 +183,8 @@ impl SourceLog {
     /// after all, and one that hasn't joined changes nothing. Takes no memory.
     pub fn left(&mut self, client: u32)
         ensures gone { (s : Source) → IsLog s self.old → IsLog (leaving client s) self.new }
-        ensures stranger { (s : Source) → IsLog s self.old → has_floor client s.floors ≡ false →
-            self.new ≡ self.old }
+        ensures stranger { (s : Source) → IsLog s self.old → has_floor client s.floors ≡ false
+            → self.new ≡ self.old }
     {
         if self.floors.has(client) {
             self.floors.remove(client);
@@ -190,7 +194,9 @@ impl SourceLog {
 
     /// Drops the deltas up to the least floor, which may have risen.
     fn let_go(&mut self)
-        ensures { (s : Source) → Holds s self.old → self.old.least ≤ least_of s → IsLog s self.new }
+        ensures drops { self.new ≡ let_go self.old }
+        ensures log { (s : Source) → Holds s self.old → self.old.least ≤ least_of s
+            → IsLog s self.new }
     {
         let least = self.floors.lowest(self.rev);
         self.kept.drop_first(least.saturating_sub(self.least));

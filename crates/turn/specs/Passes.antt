@@ -24,6 +24,14 @@ module _ {O E : Type 0} where
   abbrev pub Belongs : Pass O E → Lock O → Type 0
   Belongs p t = (p.home ≡ t.home) × (p.opening ≡ Some t.opening)
 
+  -- the same pass, which was told of as many entries as before, whatever it has seen
+  abbrev pub HasOnlySeen : Pass O E → Pass O E → Type 0
+  HasOnlySeen p q = (q.home ≡ p.home) × (q.opening ≡ p.opening) × (q.number ≡ p.number) × (q.known ≡ p.known)
+
+  -- the same pass, which has seen what it had seen, of however many entries it was told
+  abbrev pub WasOnlyTold : Pass O E → Pass O E → Type 0
+  WasOnlyTold p q = (q.home ≡ p.home) × (q.opening ≡ p.opening) × (q.number ≡ p.number) × (q.seen ≡ p.seen)
+
   -- the pass of this number, before its first turn
   abbrev pub fresh_pass : TableId → O → ℕ → Pass O E
   fresh_pass home opening i = record { home = home; opening = Some opening; number = i; seen = []; known = 0 }

@@ -38,5 +38,6 @@ pub trait Act<S: Kept> {
         requires { condition (S.opening state.old) by (S.list state.old) self.old }
         ensures opening { S.opening state.new ≡ S.opening state.old }
         ensures extends { Extends S.number_of by (S.list state.old) (S.list state.new) }
-        ensures relation { relation (S.opening state.old) by (S.list state.old) self.old self.new result (S.list state.new) };
+        ensures relation { relation (S.opening state.old) by (S.list state.old) self.old
+            self.new result (S.list state.new) };
 }

@@ -1,7 +1,7 @@
 //! The lock and its passes.
 ghost use Rattle.std.specs.Prelude.{◌≡◌, ℕ, ◌+◌, ◌<◌, ◌≤◌, ◌↔◌, List, [], ◌∷◌, ◌++◌, length, map, true, Some, None, IfOk, IfErr, IsErr, All, vec_len};
 ghost use Rattle.turn.specs.Histories.{MayFind, Extends, TakesTurn};
-ghost use Rattle.turn.specs.Passes.{Belongs, fresh_passes, HaveSeen, IsAllOf, WereTold};
+ghost use Rattle.turn.specs.Passes.{Belongs, HasOnlySeen, WasOnlyTold, fresh_passes, HaveSeen, IsAllOf, WereTold};
 ghost use Rattle.turn.specs.TurnRule.{IsIdle, IsSingle, HasTurn, IsWhole, numbers_of, first_view, end_of_pass};
 
 use crate::kept::{Act, Kept};
@@ -73,7 +73,14 @@ impl<S: Kept> Pass<S> {
         requires idle { IsIdle seat.me × IsSingle seat.me.0 }
         requires number { seat.me.0.number ≡ number }
         requires seen { (seat.me.0.seen ≡ []) × (seat.me.0.known ≡ 0) }
-        ensures { result ≡ record { home = seat.table_id; opening = seat.me.0.opening; number = number; seen = []; known = 0 } }
+        ensures { result
+            ≡ record {
+              home = seat.table_id;
+              opening = seat.me.0.opening;
+              number = number;
+              seen = [];
+              known = 0;
+            } }
     {
         Pass {
             number,
@@ -94,8 +101,11 @@ impl<S: Kept> Pass<S> {
 fn lay<S: Kept>(alloc: Global, state: S, seats: u32) -> Result<(Board<S>, Place<S>), AllocError>
     requires seats { (0 < seats) × (seats ≤ 64) }
     requires empty { S.list state ≡ [] }
-    ensures board { IfOk result (λ t. (t.0.shared.table_id.words ≡ 3) × (t.0.shared.table_id.slots ≡ 1) × (t.0.shared.key.seats ≡ seats) × (S.opening t.0.shared.key.state.value ≡ S.opening state)) }
-    ensures seat { IfOk result (λ t. (t.1.table_id ≡ t.0.shared.table_id) × (t.1.me ≡ (first_view (S.opening state), []))) }
+    ensures board { IfOk result (λ t. (t.0.shared.table_id.words ≡ 3)
+        × (t.0.shared.table_id.slots ≡ 1) × (t.0.shared.key.seats ≡ seats)
+        × (S.opening t.0.shared.key.state.value ≡ S.opening state)) }
+    ensures seat { IfOk result (λ t. (t.1.table_id ≡ t.0.shared.table_id)
+        × (t.1.me ≡ (first_view (S.opening state), []))) }
 {
     let start = Start {
         state: Snapshot::of(&state),
@@ -116,9 +126,13 @@ fn deal<S: Kept>(
     first: Place<S>,
     seats: u32,
 ) -> Result<Vec<Pass<S>>, AllocError>
-    requires board { (0 < board.now.shared.table_id.words) × (board.now.shared.key.seats ≡ seats) × (0 < seats) }
-    requires first { (first.table_id ≡ board.now.shared.table_id) × (first.me ≡ (first_view (S.opening board.now.shared.key.state.value), [])) }
-    ensures { IfOk result (λ v. v.items ≡ fresh_passes board.now.shared.table_id (S.opening board.now.shared.key.state.value) seats) }
+    requires board { (0 < board.now.shared.table_id.words)
+        × (board.now.shared.key.seats ≡ seats) × (0 < seats) }
+    requires first { (first.table_id ≡ board.now.shared.table_id)
+        × (first.me ≡ (first_view (S.opening board.now.shared.key.state.value), [])) }
+    ensures { IfOk result (λ v. v.items
+        ≡ fresh_passes board.now.shared.table_id
+        (S.opening board.now.shared.key.state.value) seats) }
 {
     let mut passes = Vec::new(alloc);
     let mut seat = first;
@@ -136,10 +150,13 @@ fn gather<S: Kept>(board: &Board<S>, seat: &mut Place<S>, passes: Vec<Pass<S>>)
     requires board { 0 < board.now.shared.table_id.words }
     requires seat { (seat.old.table_id ≡ board.now.shared.table_id) × IsIdle seat.old.me }
     requires passes { All (λ p. p.home ≡ board.now.shared.table_id) passes.items }
-    ensures seat { (seat.new.table_id ≡ seat.old.table_id) × (seat.new.id ≡ seat.old.id) × IsIdle seat.new.me }
-    ensures same { (seat.new.me.0.number ≡ seat.old.me.0.number) × (seat.new.me.0.alone ≡ seat.old.me.0.alone) }
+    ensures seat { (seat.new.table_id ≡ seat.old.table_id) × (seat.new.id ≡ seat.old.id)
+        × IsIdle seat.new.me }
+    ensures same { (seat.new.me.0.number ≡ seat.old.me.0.number)
+        × (seat.new.me.0.alone ≡ seat.old.me.0.alone) }
     ensures ended { seat.new.me.0.ended ≡ seat.old.me.0.ended ++ map end_of_pass passes.items }
-    ensures known { (seat.old.me.0.known ≤ seat.new.me.0.known) × All (λ p. p.known ≤ seat.new.me.0.known) passes.items }
+    ensures known { (seat.old.me.0.known ≤ seat.new.me.0.known)
+        × All (λ p. p.known ≤ seat.new.me.0.known) passes.items }
 {
     for pass in passes {
         let Pass {
@@ -156,7 +173,8 @@ fn take_out<S: Kept>(board: Board<S>, seat: Place<S>) -> S
     requires board { (0 < board.shared.table_id.words) × (board.shared.table_id.slots ≡ 1) }
     requires seat { (seat.table_id ≡ board.shared.table_id) × IsIdle seat.me }
     requires all { board.shared.key.seats ≤ length (numbers_of seat.me.0) }
-    ensures { IsWhole S.list S.opening S.number_of (S.opening board.shared.key.state.value) seat.me.0 result }
+    ensures { IsWhole S.list S.opening S.number_of (S.opening board.shared.key.state.value)
+        seat.me.0 result }
 {
     let mut closed = board.close_with(seat);
     let held = closed.take(0);
@@ -172,7 +190,8 @@ impl<S: Kept> Turns<S> {
     pub fn new(alloc: Global, state: S, seats: u32) -> Result<(Turns<S>, Vec<Pass<S>>), AllocError>
         requires seats { (0 < seats) × (seats ≤ 64) }
         requires empty { S.list state ≡ [] }
-        ensures lock { IfOk result (λ t. (t.0.opening ≡ S.opening state) × (t.0.seats ≡ seats)) }
+        ensures lock { IfOk result
+            (λ t. (t.0.opening ≡ S.opening state) × (t.0.seats ≡ seats)) }
         ensures passes { IfOk result (λ t. t.1.items ≡ fresh_passes t.0.home t.0.opening seats) }
         ensures count { IfOk result (λ t. vec_len t.1 ≡ seats) }
         ensures belong { IfOk result (λ t. All (λ p. Belongs p t.0) t.1.items) }
@@ -204,11 +223,16 @@ impl<S: Kept> Turns<S> {
         requires own { seat.old.table_id ≡ self.now.home }
         requires turn { (seat.old.me.0.turn ≡ true) × (seat.old.me.1 ≡ (0, None) ∷ []) }
         requires opening { seat.old.me.0.opening ≡ Some (S.opening state) }
-        requires extends { Extends S.number_of seat.old.me.0.number seat.old.me.0.seen (S.list state) }
+        requires extends { Extends S.number_of seat.old.me.0.number seat.old.me.0.seen
+            (S.list state) }
         ensures own { (seat.new.table_id ≡ seat.old.table_id) × (seat.new.id ≡ seat.old.id) }
         ensures idle { IsIdle seat.new.me }
-        ensures seen { (seat.new.me.0.seen ≡ S.list state) × (seat.new.me.0.alone ≡ S.list state) }
-        ensures same { (seat.new.me.0.number ≡ seat.old.me.0.number) × (seat.new.me.0.opening ≡ seat.old.me.0.opening) × (seat.new.me.0.ended ≡ seat.old.me.0.ended) × (seat.new.me.0.known ≡ seat.old.me.0.known) }
+        ensures seen { (seat.new.me.0.seen ≡ S.list state)
+            × (seat.new.me.0.alone ≡ S.list state) }
+        ensures same { (seat.new.me.0.number ≡ seat.old.me.0.number)
+            × (seat.new.me.0.opening ≡ seat.old.me.0.opening)
+            × (seat.new.me.0.ended ≡ seat.old.me.0.ended)
+            × (seat.new.me.0.known ≡ seat.old.me.0.known) }
         ensures count { result ≡ length (S.list state) }
     {
         let count = state.count();
@@ -226,14 +250,21 @@ impl<S: Kept> Turns<S> {
         number: u32,
         act: &mut A,
     ) -> (A::Answer, u64)
-        requires own { (seat.old.table_id ≡ self.now.home) × (seat.old.me.0.opening ≡ Some self.now.opening) }
+        requires own { (seat.old.table_id ≡ self.now.home)
+            × (seat.old.me.0.opening ≡ Some self.now.opening) }
         requires idle { IsIdle seat.old.me × IsSingle seat.old.me.0 }
         requires number { seat.old.me.0.number ≡ number }
-        requires condition { (log : List S.Entry) → MayFind S.number_of number seat.old.me.0.seen seat.old.me.0.known log → A.condition self.now.opening number log act.old }
+        requires condition { (log : List S.Entry)
+            → MayFind S.number_of number seat.old.me.0.seen seat.old.me.0.known log
+            → A.condition self.now.opening number log act.old }
         ensures own { (seat.new.table_id ≡ seat.old.table_id) × (seat.new.id ≡ seat.old.id) }
         ensures idle { IsIdle seat.new.me × IsSingle seat.new.me.0 }
-        ensures same { (seat.new.me.0.number ≡ seat.old.me.0.number) × (seat.new.me.0.opening ≡ seat.old.me.0.opening) × (seat.new.me.0.known ≡ seat.old.me.0.known) }
-        ensures turn { TakesTurn S.number_of number seat.old.me.0.seen seat.old.me.0.known (λ log log'. A.relation self.now.opening number log act.old act.new result.0 log') seat.new.me.0.seen }
+        ensures same { (seat.new.me.0.number ≡ seat.old.me.0.number)
+            × (seat.new.me.0.opening ≡ seat.old.me.0.opening)
+            × (seat.new.me.0.known ≡ seat.old.me.0.known) }
+        ensures turn { TakesTurn S.number_of number seat.old.me.0.seen seat.old.me.0.known
+            (λ log log'. A.relation self.now.opening number log act.old act.new result.0 log')
+            seat.new.me.0.seen }
         ensures count { result.1 ≡ length seat.new.me.0.seen }
     {
         self.enter(rt, seat);
@@ -258,10 +289,15 @@ impl<S: Kept> Turns<S> {
         act: &mut A,
     ) -> A::Answer
         requires belongs { Belongs pass.old self.now }
-        requires condition { (log : List S.Entry) → MayFind S.number_of pass.old.number pass.old.seen pass.old.known log → A.condition self.now.opening pass.old.number log act.old }
-        ensures same { (pass.new.home ≡ pass.old.home) × (pass.new.opening ≡ pass.old.opening) × (pass.new.number ≡ pass.old.number) × (pass.new.known ≡ pass.old.known) }
+        requires condition { (log : List S.Entry)
+            → MayFind S.number_of pass.old.number pass.old.seen pass.old.known log
+            → A.condition self.now.opening pass.old.number log act.old }
+        ensures same { HasOnlySeen pass.old pass.new }
         ensures belongs { Belongs pass.new self.now }
-        ensures turn { TakesTurn S.number_of pass.old.number pass.old.seen pass.old.known (λ log log'. A.relation self.now.opening pass.old.number log act.old act.new result log') pass.new.seen }
+        ensures turn { TakesTurn S.number_of pass.old.number pass.old.seen pass.old.known
+            (λ log log'. A.relation self.now.opening pass.old.number log
+            act.old act.new result log')
+            pass.new.seen }
     {
         let number = pass.number;
         let (answer, count) = self.run(rt, &mut pass.seat, number, act);
@@ -273,7 +309,7 @@ impl<S: Kept> Turns<S> {
     /// and no fewer than it was told before. Each later turn of the pass finds at least so many.
     pub fn newest(&self, pass: &mut Pass<S>) -> u64
         requires belongs { Belongs pass.old self.now }
-        ensures same { (pass.new.home ≡ pass.old.home) × (pass.new.opening ≡ pass.old.opening) × (pass.new.number ≡ pass.old.number) × (pass.new.seen ≡ pass.old.seen) }
+        ensures same { WasOnlyTold pass.old pass.new }
         ensures belongs { Belongs pass.new self.now }
         ensures seen { length pass.old.seen ≤ result }
         ensures before { pass.old.known ≤ result }
@@ -294,7 +330,8 @@ impl<S: Kept> Turns<S> {
         ensures seen { IfOk result (λ s. HaveSeen S.number_of passes.items (S.list s)) }
         ensures others { IfOk result (λ s. IsAllOf S.number_of passes.items (S.list s)) }
         ensures known { IfOk result (λ s. WereTold passes.items (S.list s)) }
-        ensures back { IfErr result (λ e. (e.turns ≡ self) × (e.passes.items ≡ passes.items) × (e.missing + vec_len passes ≡ self.seats)) }
+        ensures back { IfErr result (λ e. (e.turns ≡ self) × (e.passes.items ≡ passes.items)
+            × (e.missing + vec_len passes ≡ self.seats)) }
     {
         let given = passes.len();
         if given < self.seats as usize {

@@ -1,5 +1,5 @@
 -- A text as its list of UTF-16 units, and where it may be cut.
-use Rattle.std.specs.Prelude.{◌≡◌, ℕ, ◌+◌, ◌-◌, ◌*◌, ◌<◌, ◌≤◌, ◌==◌, nat_lt, nat_le, ◌&&◌, ◌||◌, if◌then◌else◌, IsTrue, Bool, true, false, List, [], ◌∷◌, ◌++◌, length}
+use Rattle.std.specs.Prelude.{◌≡◌, ◌≢◌, ℕ, ◌+◌, ◌-◌, ◌*◌, ◌<◌, ◌≤◌, ◌==◌, nat_lt, nat_le, ◌&&◌, ◌||◌, if◌then◌else◌, IsTrue, Bool, true, false, List, [], ◌∷◌, ◌++◌, length}
 use Rattle.std.specs.Char.Escape.{encode_utf16}
 use Rattle.std.specs.List.{flat_map}
 use Rattle.std.specs.Str.{encode_utf8_all}
@@ -71,6 +71,14 @@ pub record IsPlaceOf (cs : List ℕ) (at byte : ℕ) : Type 0 where
   pub back : List ℕ
   pub cut : CutsInto cs at front back
   pub bytes : length (encode_utf8_all front) ≡ byte
+
+-- the place is that of the unit with which a character begins, and the byte is the character's first
+abbrev pub BeginsAt : ℕ → ℕ → ℕ → ℕ → Type 0
+BeginsAt byte unit at b = (b ≡ byte) × (unit ≡ at)
+
+-- the place is not that of the unit with which the character begins, so it splits the character
+abbrev pub IsInside : ℕ → ℕ → UnitError → Type 0
+IsInside unit at e = (e ≡ SplitsPair at) × (unit ≢ at)
 
 -- why the characters are not cut at the place: it is past their units, or else within a pair
 abbrev pub IsCauseOf : List ℕ → ℕ → UnitError → Type 0

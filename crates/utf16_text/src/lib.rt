@@ -11,10 +11,9 @@
 
 ghost use Rattle.std.specs.Prelude.{◌≡◌, ◌==◌, ◌<◌, ◌≤◌, ◌↔◌, ◌+◌, [], ◌∷◌, ◌++◌, length, take, drop, true, IfOk, OnOk, OnErr, MatchResult};
 ghost use Rattle.std.specs.Str.{chars, encode_utf8_all};
-ghost use Rattle.utf16_text.specs.Units.{units, unit_count, decoded, begun_by, paired_with_next, is_high_half, AreScalars, CutsInto, IsPlaceOf, IsCauseOf};
+ghost use Rattle.utf16_text.specs.Units.{units, unit_count, decoded, begun_by, paired_with_next, is_high_half, AreScalars, CutsInto, IsPlaceOf, BeginsAt, IsInside, IsCauseOf};
 ghost use Rattle.utf16_text.specs.Pieces.{characters_of};
 ghost use Rattle.utf16_text.specs.Bytes.{begun_at, begun_in, IsFrontOf};
-ghost use Rattle.utf16_text.specs.declared.UnitError.TheVariants.{SplitsPair};
 
 use std::alloc::{AllocError, Global};
 use std::marker::Model;
@@ -295,7 +294,7 @@ pub fn byte_of_unit(s: &str, at: u64) -> Result<usize, UnitError>
 /// The byte place `byte` of the place `at`, if it is that of the first unit of the character there,
 /// which begins with the unit `unit`.
 fn place_before(byte: usize, unit: u64, at: u64) -> Result<usize, UnitError>
-    ensures { MatchResult result (λ b. (b ≡ byte) × (unit ≡ at)) (λ e. (e ≡ SplitsPair at) × ((unit ≡ at) → ⊥)) }
+    ensures { MatchResult result (BeginsAt byte unit at) (IsInside unit at) }
 {
     if unit == at {
         Ok(byte)
@@ -307,7 +306,9 @@ fn place_before(byte: usize, unit: u64, at: u64) -> Result<usize, UnitError>
 /// The text before a place that is counted in units, and the text after it. It takes no memory, and
 /// answers as [`byte_of_unit`] where there is no such cut.
 pub fn split_units(s: &str, at: u64) -> Result<(&str, &str), UnitError>
-    ensures { MatchResult result (λ p. CutsInto (chars s.now) at (chars p.0.now) (chars p.1.now)) (IsCauseOf (chars s.now) at) }
+    ensures { MatchResult result
+        (λ p. CutsInto (chars s.now) at (chars p.0.now) (chars p.1.now))
+        (IsCauseOf (chars s.now) at) }
 {
     let byte = byte_of_unit(s, at)?;
     Ok((&s[..byte], &s[byte..]))

@@ -9,6 +9,6 @@ pub returns-clause-ok : goal.returns-clause-ok
 returns-clause-ok c = λ s h.
     let old = c.args.self.now in
     let client = c.args.client in
-    c.let_go.ensures (joining client s)
+    c.let_go.ensures.log (joining client s)
     (refloored s old _ _ h.holds (c.in_ok-put.ensures.ok ∙ (ap (λ r. with_client client r old.floors) h.holds.rev ∙ ap (with_client client (rev_of s)) h.holds.known)))
     (omega (arith, h.lowest, lowest-joined client (rev_of s) s.floors))

@@ -9,7 +9,7 @@ pub returns-then-has-clause-gone : goal.returns-then-has-clause-gone
 returns-then-has-clause-gone c = λ s h.
     let old = c.args.self.now in
     let client = c.args.client in
-    c.let_go.ensures (leaving client s)
+    c.let_go.ensures.log (leaving client s)
     (refloored s old _ _ h.holds (c.remove.ensures ∙ ap (without client) h.holds.known))
     (omega (arith, h.lowest, lowest-left client (rev_of s) s.floors))
 

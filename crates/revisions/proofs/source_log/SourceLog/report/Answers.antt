@@ -12,7 +12,7 @@ returns-clause-answer c = λ s h.
     let client = c.args.client in
     let rev = c.args.rev in (
       low-base s old rev h c.if-rev-self.false,
-      c.let_go.ensures (reporting client rev s)
+      c.let_go.ensures.log (reporting client rev s)
           (refloored s old _ _ h.holds (c.raise.ensures ∙ ap (raised client rev) h.holds.known))
           (omega (arith, h.lowest, lowest-rises client rev (rev_of s) (rev_of s) s.floors (omega arith))),
     )

@@ -17,7 +17,7 @@ returns-clause-ok c = λ s h m.
       rev = next ∙ ap (λ a. a + 1) h.holds.rev;
       delta = refl;
       after =
-          c.let_go.ensures (taking client x s)
+          c.let_go.ensures.log (taking client x s)
           (more-holds s old _ client x k h m.fits (c.unit_len-len.ensures ∙ ap unit_count c.as_str.ensures.characters) c.in_ok-delta.ensures m.makes next refl c.in_ok-push.ensures.ok (c.raise.ensures ∙ ap (λ r. raised client r old.floors) next))
           (more-low s old client x h);
     }
