@@ -1,6 +1,6 @@
 -- The history keeps room for each answer that is owed.
-use Rattle.std.proofs.Common.{◌≡◌, ◌≤◌, ℕ, ◌+◌, Bool, true, false, if◌then◌else◌, not, List, [], ◌∷◌, ◌++◌, Option, Some, None, refl, sym, ap, subst, ◌∙◌, arith}
-use Rattle.std.specs.Prelude.{◌-◌, ◌==◌, find, filter, length, unwrap_or}
+use Rattle.std.proofs.Common.{◌≡◌, ◌≤◌, ℕ, ◌+◌, true, false, if◌then◌else◌, not, List, [], ◌∷◌, ◌++◌, Option, Some, None, refl, sym, ap, subst, ◌∙◌, arith}
+use Rattle.std.specs.Prelude.{◌==◌, find, filter, length, unwrap_or}
 use Rattle.std.proofs.lemmas.List.{length-append}
 use Rattle.ex_model.specs.declared.ran.Shown.{Shown}
 use Rattle.notebook.specs.Flow.{path}
@@ -11,7 +11,7 @@ use Rattle.session_ops.specs.declared.entry.Reply.TheVariants.{Accepted, Applied
 use Rattle.session_ops.specs.declared.entry.Entry.{Entry}
 use Rattle.session_ops.specs.State.{State, Job, is_job, is_other_job, jobs_after, IsAnswer, MayCall}
 use Rattle.session_core.specs.declared.history.History.{History}
-use Rattle.session_core.specs.History.{Appends, Grows, HasRoom, KeepsEntries, entries_in, owed_after}
+use Rattle.session_core.specs.History.{Grows, HasRoom, KeepsEntries, owed_after}
 
 -- what isn't touched is kept
 pub kept-same : (h : History) → KeepsEntries h h

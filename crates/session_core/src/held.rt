@@ -59,7 +59,7 @@ impl Held {
         ensures ok { Answers by (Client client op) self.old self.new result }
         ensures refused { (n0 : Parts) → IsHeld n0 self.old
             → IfOk result (λ answer. ChangesNothing (Client client op) answer
-                → LeavesState n0 self.old self.new) }
+            → LeavesState n0 self.old self.new) }
         ensures err { KeepsAll self.old self.new result }
     {
         match op.change()? {

@@ -1,4 +1,4 @@
-use Rattle.std.proofs.Common.{◌≡◌, ◌≤◌, ◌+◌, refl, sym, subst, ◌∙◌, arith}
+use Rattle.std.proofs.Common.{◌≡◌, refl, sym, subst, ◌∙◌, arith}
 use Rattle.std.specs.Prelude.{is_some, ◌-◌}
 use Rattle.lanes.specs.Changes.{running_eval, stored}
 use Rattle.session_ops.specs.declared.entry.Call.TheVariants.{Respond}
