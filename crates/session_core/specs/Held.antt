@@ -11,6 +11,7 @@ use Rattle.lanes.specs.Work.{may_start}
 use Rattle.session_ops.specs.declared.entry.Call.{Call}
 use Rattle.session_ops.specs.declared.entry.Call.TheVariants.{Client, Start}
 use Rattle.session_ops.specs.declared.entry.Op.{Op}
+use Rattle.session_ops.specs.declared.entry.Op.TheVariants.{Delta}
 use Rattle.session_ops.specs.declared.entry.Refusal.{Refusal}
 use Rattle.session_ops.specs.declared.entry.Reply.{Reply}
 use Rattle.session_ops.specs.declared.entry.Reply.TheVariants.{Started, Refused}
@@ -20,6 +21,7 @@ use Rattle.session_ops.specs.Orderly.{IsOrderly}
 use Rattle.session_ops.specs.State.{State, Job, state, reply, jobs, is_job, Legal, once_made}
 use Rattle.session_core.specs.declared.job.PlainJob.{PlainJob}
 use Rattle.session_core.specs.declared.held.Held.{Held}
+use Rattle.session_core.specs.declared.sources.Edit.{Edit}
 use Rattle.session_core.specs.Jobs.{IsAlong}
 use Rattle.session_core.specs.History.{AreApart, HasRoom, entries_in}
 use Rattle.session_core.specs.Logs.{AreLogs}
@@ -77,6 +79,10 @@ pub record HasStarted (n0 : Parts) (by : ℕ) (lane : Lane) (old new : Held) (jo
 abbrev pub HasTriedStart : Parts → ℕ → Lane → Held → Held → Option PlainJob → Type 0
 HasTriedStart n0 by lane old new None = (may_start (state_of n0 old).book (state_of n0 old).work lane ≡ None) × IsAsBefore n0 old new
 HasTriedStart n0 by lane old new (Some job) = HasStarted n0 by lane old new job
+
+-- the operation that a client's edit is
+abbrev pub delta_of : Edit → Op
+delta_of edit = Delta edit.cell edit.base edit.delta
 
 -- whatever the notebook with which it opened: the call is answered as the state says, and one entry more is appended
 abbrev pub Answers : {E : Type 0} → ℕ → Call → Held → Held → Result Reply E → Type 0
