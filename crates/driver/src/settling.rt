@@ -47,6 +47,7 @@ fn answer(alloc: Global, session: &mut Session, by: u32, job: PlainJob) -> Resul
     ensures { (n0 : Parts) → IsSession n0 session.old → OnOk result (HasResponded n0 by job.eval session.old session.new) }
 {
     let ran = run(alloc, job.source.as_str(), &job.base, STEPS)?;
-    session.respond(by, job.eval, Evaluated::of(ran)?);
+    let given = Evaluated::of(ran)?;
+    session.respond(by, job.eval, given);
     Ok(())
 }
