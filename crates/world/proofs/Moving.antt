@@ -24,7 +24,8 @@ use Rattle.session_ops.specs.declared.entry.Refusal.TheVariants.{NotJoined, TooN
 use Rattle.session_ops.specs.declared.entry.Reply.{Reply}
 use Rattle.session_ops.specs.declared.entry.Reply.TheVariants.{Applied, Started, Stored, Refused}
 use Rattle.session_ops.specs.declared.entry.Entry.{Entry}
-use Rattle.session_ops.specs.State.{State, Job, Taken, Misfit, Past, Splits, after, after_call, after_op, state_from, taken_by, revision, least, misfit, split_misfit, moved_source, reply, delta_reply, judged_by, HasReplies, jobs_from, jobs_after}
+use Rattle.session_ops.specs.Deeds.{moved_source}
+use Rattle.session_ops.specs.State.{State, Job, Taken, Misfit, Past, Splits, after, after_call, after_op, state_from, taken_by, revision, least, misfit, split_misfit, reply, delta_reply, judged_by, HasReplies, jobs_from, jobs_after}
 use Rattle.session_ops.specs.Structure.{change_of}
 use Rattle.session_ops.specs.Numbers.{is_in}
 use Rattle.client_sync.specs.Client.{Pending, joined_client}

@@ -13,6 +13,7 @@ use Rattle.session_ops.specs.declared.entry.Entry.{Entry}
 use Rattle.session_ops.specs.State.{State, state, opening, reply, HasReplies, Legal, jobs_from}
 use Rattle.client_sync.specs.Client.{Client, Pending, pending_of}
 use Rattle.client_sync.specs.Fits.{HasSource}
+use Rattle.session_ops.specs.Deeds.{deed}
 use Rattle.client_sync.specs.Stands.{IsOwnFlight, IsNextEntry}
 use Rattle.world.specs.Applied.{is_own}
 use Rattle.world.specs.Waiting.{IsKeptLive, IsKept, IsHonest}
@@ -28,7 +29,7 @@ own-pending s e es n k rev ops x (Some p) mine answer kept =
     let both : Applied rev x ≡ Applied back.rev p.flight = sym answer ∙ back.answer in
     (p, (refl, cc both))
 
-own-flight : (s : State) (c : Client) (e : Entry) (es : List Entry) (call : Call) (answer : Reply) → e.call ≡ call → e.reply ≡ answer → answer ≡ reply s call → ((k : ℕ) → IsKept s (e ∷ es) c.number k c.outbox (found k (cells s.book)) (pending_of k c.pending)) → IsOwnFlight c call answer
+own-flight : (s : State) (c : Client) (e : Entry) (es : List Entry) (call : Call) (answer : Reply) → e.call ≡ call → e.reply ≡ answer → answer ≡ reply s call → ((k : ℕ) → IsKept s (e ∷ es) c.number k c.outbox (found k (cells s.book)) (pending_of k c.pending)) → IsOwnFlight c (deed call answer)
 own-flight s c e es (ByClient n (Delta cell base d)) (Applied rev x) is answer right kept =
     λ same. let mine : is_own c.number cell e ≡ true = own-entry c.number cell base rev d x e (is ∙ ap (λ m. ByClient m (Delta cell base d)) same) answer in
     let there : (t : List ℕ) × HasSource s.book cell t = taken-there s n cell base rev d x right in
