@@ -16,11 +16,13 @@ use Rattle.session_ops.specs.declared.entry.Call.TheVariants.{Client as ByClient
 use Rattle.session_ops.specs.declared.entry.Reply.{Reply}
 use Rattle.session_ops.specs.declared.entry.Reply.TheVariants.{Applied, Refused}
 use Rattle.session_ops.specs.declared.entry.Entry.{Entry}
+use Rattle.session_ops.specs.Structure.{change_of}
 use Rattle.session_ops.specs.Deeds.{deed}
 use Rattle.session_ops.specs.State.{State, Misfit, misfit, revision}
 use Rattle.session_ops.specs.Numbers.{is_in}
 use Rattle.client_sync.specs.Client.{Client, Pending, Edited, Done, NoCell, EditTooLong, Unfit, delivered, held, edited, edited_cell, with_fitting, with_edit, with_report, with_message, reported, pending_of, all_moved, with_own, with_deed, reposted, without_client, received_entry, client_of, put_client}
 use Rattle.world.specs.Claims.{number_of}
+use Rattle.world.proofs.Quiet.{quiet-number, quiet-seen}
 
 -- what all are, all are after one was put in its place
 pub put-all : (P : Client → Type 0) (c : Client) (cs : List Client) → P c → AllByRecursion P cs → AllByRecursion P (put_client c cs)
@@ -124,7 +126,7 @@ op-seen s c n (Delta cell base d) (Applied rev x) =
     elim (n == c.number)
     as (λ b. (if b then with_own c cell rev (pending_of cell c.pending) else record c { pending = all_moved cell x c.pending }).seen ≡ c.seen)
     [ true ↦ own-seen c cell rev (pending_of cell c.pending) | false ↦ refl ]
-op-seen s c n op answer = refl
+op-seen s c n op answer = quiet-seen s.book c (change_of op)
 
 call-seen : (s : State) (c : Client) (call : Call) (answer : Reply) → (with_deed s.book c (deed call answer)).seen ≡ c.seen
 call-seen s c (ByClient n op) answer = op-seen s c n op answer
@@ -149,7 +151,7 @@ op-number s c n (Delta cell base d) (Applied rev x) =
     elim (n == c.number)
     as (λ b. (if b then with_own c cell rev (pending_of cell c.pending) else record c { pending = all_moved cell x c.pending }).number ≡ c.number)
     [ true ↦ own-number c cell rev (pending_of cell c.pending) | false ↦ refl ]
-op-number s c n op answer = refl
+op-number s c n op answer = quiet-number s.book c (change_of op)
 
 pub call-number : (s : State) (c : Client) (call : Call) (answer : Reply) → (with_deed s.book c (deed call answer)).number ≡ c.number
 call-number s c (ByClient n op) answer = op-number s c n op answer

@@ -17,6 +17,7 @@ use Rattle.session_ops.specs.declared.entry.Refusal.TheVariants.{AlreadyJoined}
 use Rattle.session_ops.specs.declared.entry.Reply.{Reply}
 use Rattle.session_ops.specs.declared.entry.Reply.TheVariants.{Accepted, Applied, Refused}
 use Rattle.session_ops.specs.declared.entry.Entry.{Entry}
+use Rattle.session_ops.specs.Structure.{change_of}
 use Rattle.session_ops.specs.Deeds.{deed}
 use Rattle.session_ops.specs.State.{State, state, state_from, opening, after, reply, HasReplies, Legal, jobs_from}
 use Rattle.session_ops.specs.Structure.{is_postable}
@@ -40,6 +41,7 @@ use Rattle.world.proofs.Receiving.{IsEntry, call-received}
 use Rattle.world.proofs.Editing.{edited-honest, reported-honest, posted-honest}
 use Rattle.world.proofs.Taking.{IsDeltaAnswer, IsReportAnswer, delta-answered, report-answered, edit-first, report-first, own-taken}
 use Rattle.world.proofs.Heard.{member-heard, whole-heard}
+use Rattle.world.proofs.Quiet.{quiet-outbox}
 
 -- the state at the history's end, from the client's place on
 pub at-end : (n0 : Parts) (h : List Entry) (c : Client) → (honest : IsHonest n0 h c) → state n0 h ≡ state_from (state n0 c.seen) honest.later
@@ -261,7 +263,7 @@ op-lived n0 s c n k (Delta j base d) (Applied rev x) here e f =
       | true ↦ λ ne. let is : IsTaken s j rev x = applied-taken s n j base rev d x (sym e) in own-outbox n0 c j rev k (pending_of j c.pending) (here j is.own is.there) f ne
       | false ↦ f
     ]
-op-lived n0 s c n k op answer here e f = f
+op-lived n0 s c n k op answer here e f = subst (λ ops. messages_for k ops ≢ [] → HasLived n0 c.seen k) (sym (quiet-outbox s.book c (change_of op))) f
 
 call-lived : (n0 : Parts) (s : State) (c : Client) (k : ℕ) (call : Call) (answer : Reply) → ((j : ℕ) (own : Cell) → found j (cells s.book) ≡ Some own → HasLived n0 c.seen j) → answer ≡ reply s call → (messages_for k c.outbox ≢ [] → HasLived n0 c.seen k) → messages_for k (with_deed s.book c (deed call answer)).outbox ≢ [] → HasLived n0 c.seen k
 call-lived n0 s c k (ByClient n op) answer here e f = op-lived n0 s c n k op answer here e f
@@ -281,7 +283,7 @@ op-inside s c n (Delta j base d) (Applied rev x) all =
     elim (n == c.number)
     as (λ b. HasNoPassage (if b then with_own c j rev (pending_of j c.pending) else record c { pending = all_moved j x c.pending }).outbox)
     [ true ↦ own-inside c j rev (pending_of j c.pending) all | false ↦ all ]
-op-inside s c n op answer all = all
+op-inside s c n op answer all = subst HasNoPassage (sym (quiet-outbox s.book c (change_of op))) all
 
 call-inside : (s : State) (c : Client) (call : Call) (answer : Reply) → HasNoPassage c.outbox → HasNoPassage (with_deed s.book c (deed call answer)).outbox
 call-inside s c (ByClient n op) answer all = op-inside s c n op answer all

@@ -20,6 +20,7 @@ use Rattle.session_ops.specs.declared.entry.Call.TheVariants.{Client as ByClient
 use Rattle.session_ops.specs.declared.entry.Reply.{Reply}
 use Rattle.session_ops.specs.declared.entry.Reply.TheVariants.{Applied, Refused}
 use Rattle.session_ops.specs.declared.entry.Entry.{Entry}
+use Rattle.session_ops.specs.Structure.{change_of}
 use Rattle.session_ops.specs.Deeds.{deed, moved_source}
 use Rattle.session_ops.specs.State.{State, state_from, after, after_call, taken_by, revision, floor, reply, misfit}
 use Rattle.client_sync.specs.Client.{Client, Pending, pending_of, all_moved, without, with_own, with_deed, reposted}
@@ -30,6 +31,7 @@ use Rattle.world.proofs.Changing.{IsPassing, Stays, call-passing, is_applied, is
 use Rattle.world.proofs.Moving.{IsTaken, applied-taken, one-source, fits-from, found-number, taken-source, grown-revision, applied-none, own-none}
 use Rattle.world.proofs.Keeping.{IsOwnBack, own-back, not-quiet, kept-passed, live-moved, live-from, live-kept, kept-ops, reports-weaker}
 use Rattle.world.proofs.Pendings.{shifted_option, shifted-same, shifted-other, without-same, without-other, pending-added, pending-beside, messages-append, edit-here, edit-beside}
+use Rattle.world.proofs.Quiet.{quiet-outbox}
 
 -- a delta is posted for a cell of which nothing but reports is on its way
 pub posted-kept : (s : State) (later : List Entry) (n k rev : ℕ) (ops : List Op) (d : List Step) (t : List ℕ) → rev ≡ revision s k → HasSource s.book k t → FitsText d t → IsQuiet s later n k ops → IsKeptLive s later n k (ops ++ Delta k rev d ∷ []) (Some (record { cell = k; flight = d; buffer = [] }))
@@ -192,7 +194,7 @@ own-received s c e es m j base rev k d x h is mine kept =
 op-outbox : (s : State) (c : Client) (n : ℕ) (op : Op) (answer : Reply) → is_applied_op op answer ≡ false → (with_deed s.book c (deed (ByClient n op) answer)).outbox ≡ c.outbox
 op-outbox s c n op (Refused why) e = refl
 op-outbox s c n (Delta j base d) (Applied rev x) e = absurd (cc e)
-op-outbox s c n op answer e = refl
+op-outbox s c n op answer e = quiet-outbox s.book c (change_of op)
 
 pub passing-outbox : (s : State) (c : Client) (call : Call) (answer : Reply) → is_applied call answer ≡ false → (with_deed s.book c (deed call answer)).outbox ≡ c.outbox
 passing-outbox s c (ByClient n op) answer e = op-outbox s c n op answer e
