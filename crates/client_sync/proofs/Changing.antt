@@ -17,10 +17,11 @@ use Rattle.notebook.proofs.Keeping.{change-keeps, change-counts}
 use Rattle.notebook.proofs.Living.{change-found}
 use Rattle.notebook.proofs.Resourcing.{change-resourced}
 use Rattle.session_ops.specs.declared.entry.Entry.{Entry}
-use Rattle.session_ops.specs.State.{State, after, after_call, once_made, taken_by, revision}
+use Rattle.session_ops.specs.Deeds.{Nothing, Changes, deed}
+use Rattle.session_ops.specs.State.{State, after, after_call, once_done, once_made, taken_by, revision}
+use Rattle.session_ops.proofs.Deeds.{IsDoneBy, done-by}
 use Rattle.session_ops.specs.Snapshot.{HasRevisions, revision_if, listed_revision, listed_cell}
-use Rattle.client_sync.specs.Arrivals.{arriving, accepted_change}
-use Rattle.client_sync.specs.Client.{Client as Holder, Pending, pending_of, with_pending, own_source, delivered, without, without_cells, gone_by, with_call, received_entry}
+use Rattle.client_sync.specs.Client.{Client as Holder, Pending, pending_of, with_pending, own_source, delivered, without, with_deed, received_entry}
 use Rattle.client_sync.specs.Fits.{HasSource, FitsHere}
 use Rattle.client_sync.specs.Going.{ArePendingBelow, HasChanged, HasForgotten, IsOver, without_numbers}
 use Rattle.client_sync.specs.Revisions.{with_made, without_revisions}
@@ -28,7 +29,6 @@ use Rattle.client_sync.specs.Stands.{Mirrors, HaveServerTexts, pending_in}
 use Rattle.session_ops.specs.Born.{TouchesMadeCells}
 use Rattle.client_sync.specs.declared.client.Client.{Client}
 use Rattle.client_sync.specs.declared.pending.Unconfirmed.{Unconfirmed}
-use Rattle.client_sync.proofs.Accepting.{IsStill, still-call, changed-call, other-received}
 use Rattle.client_sync.proofs.Books.{found-below}
 use Rattle.client_sync.proofs.Edits.{distinct-added, without-same}
 use Rattle.client_sync.proofs.Going.{by-numbers, none-stays, gone-none, others-stay, gone-unlisted, others-listed, listed-apart, absent-listed}
@@ -223,21 +223,19 @@ pending-before k cs ps p e =
     refl
 
 -- the client that the definitions give
-received-change : (s : State) (m : Holder) (e : Entry) (asked : Change) → arriving e.call e.reply ≡ None → accepted_change e.call e.reply ≡ Some asked → with_call s (seen_more m e) e.call e.reply ≡ record (seen_more m e) { pending = without_numbers (gone_of s.book asked) m.pending }
-received-change s m e asked none some =
-    other-received s (seen_more m e) e.call e.reply none
-    ∙ (ap (λ o. record (seen_more m e) { pending = without_cells (gone_by s.book o) m.pending }) some
-    ∙ ap (λ ps. record (seen_more m e) { pending = ps }) (by-numbers (gone_cells s.book asked) m.pending))
+received-change : (n : Parts) (m : Holder) (e : Entry) (asked : Change) → deed e.call e.reply ≡ Changes asked → with_deed n (seen_more m e) (deed e.call e.reply) ≡ record (seen_more m e) { pending = without_numbers (gone_of n asked) m.pending }
+received-change n m e asked did = ap (with_deed n (seen_more m e)) did ∙ ap (λ ps. record (seen_more m e) { pending = ps }) (by-numbers (gone_cells n asked) m.pending)
 
 -- the state after the entry
-next-change : (n0 : Parts) (m : Holder) (e : Entry) (asked : Change) (made : Changed) (n' : Parts) → arriving e.call e.reply ≡ None → accepted_change e.call e.reply ≡ Some asked → change (delivered n0 m).book asked ≡ Makes n' made → ((next_state n0 m e).book ≡ n') × IsChanged (delivered n0 m) (next_state n0 m e) asked made
-next-change n0 m e asked made n' none some makes =
+next-change : (n0 : Parts) (m : Holder) (e : Entry) (asked : Change) (made : Changed) (n' : Parts) → deed e.call e.reply ≡ Changes asked → change (delivered n0 m).book asked ≡ Makes n' made → ((next_state n0 m e).book ≡ n') × IsChanged (delivered n0 m) (next_state n0 m e) asked made
+next-change n0 m e asked made n' did makes =
     let s : State = delivered n0 m in
     let t : State = next_state n0 m e in
-    let called : after_call s e.call e.reply ≡ once_made s (Makes n' made) = changed-call s e.call e.reply asked none some ∙ ap (once_made s) makes in
+    let by : IsDoneBy (deed e.call e.reply) s (after_call s e.call e.reply) = done-by s e.call e.reply in
+    let called : once_done s (deed e.call e.reply) ≡ once_made s (Makes n' made) = ap (once_done s) did ∙ ap (once_made s) makes in
     let grown : t ≡ after s e = state-append n0 m.seen e in
-    let book : t.book ≡ n' = ap (λ (x : State). x.book) grown ∙ ap (λ (x : State). x.book) called in
-    let taken : t.taken ≡ s.taken = ap (λ (x : State). x.taken) grown ∙ ap (λ (x : State). x.taken) called in
+    let book : t.book ≡ n' = ap (λ (x : State). x.book) grown ∙ (by.book ∙ ap (λ (x : State). x.book) called) in
+    let taken : t.taken ≡ s.taken = ap (λ (x : State). x.taken) grown ∙ (by.taken ∙ ap (λ (x : State). x.taken) called) in
     (book, record { makes = makes ∙ ap (λ n. Makes n made) (sym book); taken = taken })
 
 -- no delta was applied to a cell that isn't made yet
@@ -246,17 +244,17 @@ made-changed s t asked made is rules old = λ cell late.
     let grown : s.book.next_cell ≤ t.book.next_cell = (change-counts s.book t.book asked made rules is.makes).0 in
     revision-same s t is.taken cell ∙ old cell (omega (arith, grown, late))
 
-pub change-mirrors : (n0 : Parts) (c c' : Client) (m : Holder) (e : Entry) (asked : Change) (n' : Parts) (made : Changed) → Mirrors n0 c m → arriving e.call e.reply ≡ None → accepted_change e.call e.reply ≡ Some asked → change (delivered n0 m).book asked ≡ Makes n' made
+pub change-mirrors : (n0 : Parts) (c c' : Client) (m : Holder) (e : Entry) (asked : Change) (n' : Parts) (made : Changed) → Mirrors n0 c m → deed e.call e.reply ≡ Changes asked → change (delivered n0 m).book asked ≡ Makes n' made
     → HasChanged (delivered n0 m).book n' c c' (without_numbers (gone_of (delivered n0 m).book asked) m.pending) (gone_of (delivered n0 m).book asked) made → Mirrors n0 (record c' { cursor = length m.seen + 1 }) (received_entry n0 m e)
-change-mirrors n0 c c' m e asked n' made is none some makes has =
+change-mirrors n0 c c' m e asked n' made is did makes has =
     let s : State = delivered n0 m in
     let t : State = next_state n0 m e in
-    let new : (t.book ≡ n') × IsChanged s t asked made = next-change n0 m e asked made n' none some makes in
+    let new : (t.book ≡ n') × IsChanged s t asked made = next-change n0 m e asked made n' did makes in
     let ps : List Pending = without_numbers (gone_of s.book asked) m.pending in
     let by : IsMadeBy s.book asked made = made-by s.book n' asked made makes in
     let lives : (j : ℕ) → found j (cells t.book) ≡ lives_on s.book asked j = λ j. change-found s.book t.book asked made j is.notebook new.1.makes in
     let keep : (k : ℕ) (p : Pending) (w : List ℕ) → pending_of k ps ≡ Some p → HasSource s.book k w → HasSource t.book k w = λ k p w at h. lived-on s.book t.book asked made m.pending k p w by lives is.notebook at h in
-    subst (Mirrors n0 (record c' { cursor = length m.seen + 1 })) (sym (received-change s m e asked none some))
+    subst (Mirrors n0 (record c' { cursor = length m.seen + 1 })) (sym (received-change s.book m e asked did))
     (record {
       number = ap (λ (x : Client). x.number) has.same ∙ is.number;
       cursor = sym (length-append m.seen (e ∷ []));
@@ -280,15 +278,16 @@ revisions-still s t rs is e h = record {
 }
 
 -- any other entry moves the cursor alone
-pub still-mirrors : (n0 : Parts) (c : Client) (m : Holder) (e : Entry) → Mirrors n0 c m → arriving e.call e.reply ≡ None → accepted_change e.call e.reply ≡ None → Mirrors n0 (record c { cursor = length m.seen + 1 }) (received_entry n0 m e)
-still-mirrors n0 c m e is none quiet =
+pub still-mirrors : (n0 : Parts) (c : Client) (m : Holder) (e : Entry) → Mirrors n0 c m → deed e.call e.reply ≡ Nothing → Mirrors n0 (record c { cursor = length m.seen + 1 }) (received_entry n0 m e)
+still-mirrors n0 c m e is quiet =
     let s : State = delivered n0 m in
     let t : State = next_state n0 m e in
-    let called : IsStill s (after_call s e.call e.reply) = still-call s e.call e.reply none quiet in
+    let by : IsDoneBy (deed e.call e.reply) s (after_call s e.call e.reply) = done-by s e.call e.reply in
+    let called : once_done s (deed e.call e.reply) ≡ s = ap (once_done s) quiet in
     let grown : t ≡ after s e = state-append n0 m.seen e in
-    let book : t.book ≡ s.book = ap (λ (x : State). x.book) grown ∙ called.book in
-    let taken : t.taken ≡ s.taken = ap (λ (x : State). x.taken) grown ∙ called.taken in
-    let received : received_entry n0 m e ≡ seen_more m e = other-received s (seen_more m e) e.call e.reply none ∙ ap (λ o. record (seen_more m e) { pending = without_cells (gone_by s.book o) m.pending }) quiet in
+    let book : t.book ≡ s.book = ap (λ (x : State). x.book) grown ∙ (by.book ∙ ap (λ (x : State). x.book) called) in
+    let taken : t.taken ≡ s.taken = ap (λ (x : State). x.taken) grown ∙ (by.taken ∙ ap (λ (x : State). x.taken) called) in
+    let received : received_entry n0 m e ≡ seen_more m e = ap (with_deed s.book (seen_more m e)) quiet in
     subst (Mirrors n0 (record c { cursor = length m.seen + 1 })) (sym received)
     (record {
       number = is.number;

@@ -9,6 +9,7 @@ use Rattle.delta.specs.Steps.{inserted_by}
 use Rattle.delta.specs.Moves.{FitsText, text_after}
 use Rattle.delta_laws.specs.Misfits.{Misfit, Past, Splits, misfit}
 use Rattle.delta_laws.proofs.Laws.{delta_laws}
+use Rattle.limits.specs.Limits.{most_inserted}
 use Rattle.notebook.specs.declared.parts.Cell.{Cell}
 use Rattle.notebook.specs.declared.parts.Parts.{Parts}
 use Rattle.notebook.specs.Book.{cells, found, resourced_cell, resourced, with_source}
@@ -26,17 +27,18 @@ use Rattle.client_sync.specs.declared.edit_error.EditError.{EditError}
 use Rattle.client_sync.specs.declared.edit_error.EditError.TheVariants.{NoCell as NoCellError, EditTooLong as TooLongError, PastEnd, SplitsPair, OutOfMemory}
 use Rattle.client_sync.proofs.Books.{live-apart, with-one-source}
 use Rattle.client_sync.proofs.Edits.{with_buffer, buffer_option, buffered-same, buffered-other, pending-added, pending-beside}
-use Rattle.client_sync.proofs.Fitting.{found-number, one-source, fits-buffered, buffer-shows}
+use Rattle.session_ops.proofs.Live.{found-number}
+use Rattle.client_sync.proofs.Fitting.{one-source, fits-buffered, buffer-shows}
 use Rattle.client_sync.proofs.Viewing.{found-held, known-revision}
 
 -- what an edit is judged by
-short-test : (k : ℕ) → k ≤ 65536 → nat_lt 65536 k ≡ false
+short-test : (k : ℕ) → k ≤ most_inserted → nat_lt most_inserted k ≡ false
 short-test k h = grind (arith, nat_tests, h)
 
-long-test : (k : ℕ) → 65536 < k → nat_lt 65536 k ≡ true
+long-test : (k : ℕ) → most_inserted < k → nat_lt most_inserted k ≡ true
 long-test k h = grind (arith, nat_tests, h)
 
-fitting : (m : Holder) (cell rev : ℕ) (d : List Step) (n : Parts) (own : Cell) (why : Option Misfit) → found cell (cells n) ≡ Some own → inserted_by d ≤ 65536 → misfit d own.source ≡ why → edited_cell m cell rev d (found cell (cells n)) ≡ with_fitting m cell rev d why
+fitting : (m : Holder) (cell rev : ℕ) (d : List Step) (n : Parts) (own : Cell) (why : Option Misfit) → found cell (cells n) ≡ Some own → inserted_by d ≤ most_inserted → misfit d own.source ≡ why → edited_cell m cell rev d (found cell (cells n)) ≡ with_fitting m cell rev d why
 fitting m cell rev d n own why there short fits = rw (there, short-test (inserted_by d) short, fits) refl
 
 unfitting : (m : Holder) (cell rev : ℕ) (d : List Step) (why : Misfit) → with_fitting m cell rev d (Some why) ≡ Unfit why
@@ -47,7 +49,7 @@ doing : (m : Holder) (cell rev : ℕ) (d : List Step) → d ≢ [] → with_fitt
 doing m cell rev [] h = absurd (h refl)
 doing m cell rev (s ∷ d) h = refl
 
-too-long : (m : Holder) (cell rev : ℕ) (d : List Step) (n : Parts) (own : Cell) → found cell (cells n) ≡ Some own → 65536 < inserted_by d → edited_cell m cell rev d (found cell (cells n)) ≡ EditTooLong
+too-long : (m : Holder) (cell rev : ℕ) (d : List Step) (n : Parts) (own : Cell) → found cell (cells n) ≡ Some own → most_inserted < inserted_by d → edited_cell m cell rev d (found cell (cells n)) ≡ EditTooLong
 too-long m cell rev d n own there long = rw (there, long-test (inserted_by d) long) refl
 
 fault-of : (m : Holder) (cell rev : ℕ) (d : List Step) (n : Parts) (e : EditError) → IsOwnFault n cell d e → IsEditCause (edited_cell m cell rev d (found cell (cells n))) e

@@ -16,7 +16,7 @@ use Rattle.client_sync.specs.Stands.{HasEdits, HaveServerTexts, IsPendingAt, pen
 use Rattle.client_sync.specs.declared.client.Client.{Client}
 use Rattle.client_sync.proofs.Books.{live-apart, with-one-source}
 use Rattle.client_sync.proofs.Edits.{without-none, without-same, without-other, apart-without, contains-behind, contains-rest}
-use Rattle.client_sync.proofs.Fitting.{found-number}
+use Rattle.session_ops.proofs.Live.{found-number}
 use Rattle.client_sync.proofs.Returning.{gone-pending}
 use Rattle.client_sync.proofs.Texts.{StandsThere, stands-there, texts-append}
 

@@ -10,7 +10,7 @@ use Rattle.notebook.specs.Change.{Makes, change, cells_in, delete_cell}
 use Rattle.notebook.specs.Living.{gone_cells, listed}
 use Rattle.notebook.specs.Rules.{cell_number}
 use Rattle.notebook.proofs.Sources.{cell_numbers-resourced_cells}
-use Rattle.client_sync.proofs.Fitting.{found-number}
+use Rattle.session_ops.proofs.Live.{found-number}
 
 -- the numbers of a section's cells, whatever their sources
 cells-in-resourced : (f : Cell → List ℕ) (id : ℕ) (ss : List Section) → cells_in id (resourced_sections f ss) ≡ resourced_cells f (cells_in id ss)

@@ -1,4 +1,3 @@
-pub mod Accepting
 pub mod Books
 pub mod Changing
 pub mod Editing

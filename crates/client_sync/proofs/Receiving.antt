@@ -12,18 +12,15 @@ use Rattle.notebook.specs.declared.parts.Parts.{Parts}
 use Rattle.notebook.specs.Book.{cells, found, resourced_cell, resourced, with_source}
 use Rattle.notebook.specs.Rules.{AreDistinct, IsNotebook, cell_number}
 use Rattle.notebook.proofs.Sources.{found-resourced, IsNotebook-resourced}
-use Rattle.session_ops.specs.declared.entry.Op.TheVariants.{Delta}
-use Rattle.session_ops.specs.declared.entry.Call.{Call}
-use Rattle.session_ops.specs.declared.entry.Call.TheVariants.{Client as ByClient}
-use Rattle.session_ops.specs.declared.entry.Reply.{Reply}
-use Rattle.session_ops.specs.declared.entry.Reply.TheVariants.{Applied}
 use Rattle.session_ops.specs.declared.entry.Entry.{Entry}
-use Rattle.session_ops.specs.State.{State, Taken, state, after, after_call, taken_by, revision, moved_source, reply}
+use Rattle.session_ops.specs.Deeds.{CellEdit, Deed, Edits, FitsCell, book_after, deed, moved_source}
+use Rattle.session_ops.specs.State.{State, Taken, state, after, after_call, once_done, taken_by, revision, reply}
+use Rattle.session_ops.proofs.Deeds.{IsTaken, IsDoneBy, done-by, edit-taken, moved-one}
+use Rattle.session_ops.proofs.Live.{found-number}
 use Rattle.session_ops.specs.Snapshot.{HasRevisions}
-use Rattle.client_sync.specs.Arrivals.{Arriving, arriving}
-use Rattle.client_sync.specs.Client.{Client as Holder, Pending, pending_of, after_buffer, with_pending, own_source, delivered, with_own, with_call, reposted, all_moved, without, received_entry}
+use Rattle.client_sync.specs.Client.{Client as Holder, Pending, pending_of, after_buffer, with_pending, own_source, delivered, with_own, with_deed, reposted, all_moved, without, received_entry}
 use Rattle.client_sync.specs.Fits.{HasSource, FitsHere}
-use Rattle.client_sync.specs.Moving.{over_option, FitsCell, book_after, IsMovedOver}
+use Rattle.client_sync.specs.Moving.{over_option, IsMovedOver}
 use Rattle.client_sync.specs.Revisions.{raised}
 use Rattle.client_sync.specs.Stands.{Mirrors, HasEdits, HaveServerTexts, IsNextEntry, IsOwnFlight}
 use Rattle.session_ops.specs.Born.{TouchesMadeCells}
@@ -31,7 +28,7 @@ use Rattle.client_sync.specs.declared.client.Client.{Client}
 use Rattle.client_sync.proofs.Books.{fused, same-each, live-apart, found-below, with-one-source}
 use Rattle.client_sync.proofs.Editing.{FitsOver, fits-over, fits-either}
 use Rattle.client_sync.proofs.Edits.{shifted_option, shifted-same, shifted-other, without-same, without-other, pending-added, pending-beside}
-use Rattle.client_sync.proofs.Fitting.{IsTaken, IsShifted, applied-taken, found-number, shift-fits}
+use Rattle.client_sync.proofs.Fitting.{IsShifted, shift-fits}
 use Rattle.client_sync.proofs.Growing.{state-append}
 use Rattle.client_sync.proofs.Revisions.{SameNumber, revisions-raised}
 use Rattle.client_sync.proofs.Texts.{source-moved, source-beside, source-here}
@@ -60,44 +57,32 @@ raised-rev : (b : Bool) (n rev r : ℕ) → (b ≡ true → rev ≡ n + 1) → (
 raised-rev true n rev r e h = ap (λ i. i + 1) (h refl) ∙ sym (e refl)
 raised-rev false n rev r e h = refl
 
-arrived-call : (s : State) (n k base rev : ℕ) (d x : List Step) → IsTaken s k rev x → (j : ℕ) → revision (after_call s (ByClient n (Delta k base d)) (Applied rev x)) j ≡ (if j == k then rev else revision s j)
-arrived-call s n k base rev d x is j =
+arrived-revision : (s t : State) (k rev : ℕ) (x : List Step) → IsTaken s k rev x → t.taken ≡ s.taken ++ record { cell = k; delta = x } ∷ [] → (j : ℕ) → revision t j ≡ (if j == k then rev else revision s j)
+arrived-revision s t k rev x is e j =
     let flip : (k == j) ≡ (j == k) = grind (arith, nat_tests) in
-    ap length (taken-append j s.taken (record { cell = k; delta = x }))
+    ap (λ ts. length (taken_by j ts)) e
+    ∙ (ap length (taken-append j s.taken (record { cell = k; delta = x }))
     ∙ (grown (taken_by j s.taken) x (k == j)
     ∙ (ap (λ b. if b then revision s j + 1 else revision s j) flip
-    ∙ raised-rev (j == k) (revision s k) rev (revision s j) (λ t. is.next) (λ t. ap (revision s) (eqb-true j k t))))
+    ∙ raised-rev (j == k) (revision s k) rev (revision s j) (λ t. is.next) (λ t. ap (revision s) (eqb-true j k t)))))
 
-arrived-of : (s : State) (e : Entry) (n k base rev : ℕ) (d x : List Step) → e.call ≡ ByClient n (Delta k base d) → e.reply ≡ Applied rev x → e.reply ≡ reply s e.call → IsArrived s (after s e) k rev x
-arrived-of s e n k base rev d x call answer right =
-    let taken : IsTaken s k rev x = applied-taken s n k base rev d x (sym (sym answer ∙ (right ∙ ap (reply s) call))) in
-    let same : after_call s e.call e.reply ≡ after_call s (ByClient n (Delta k base d)) (Applied rev x) = ap (λ c. after_call s c e.reply) call ∙ ap (after_call s (ByClient n (Delta k base d))) answer in
+arrived-of : (s : State) (e : Entry) (a : CellEdit) → deed e.call e.reply ≡ Edits a → e.reply ≡ reply s e.call → IsArrived s (after s e) a.cell a.rev a.delta
+arrived-of s e a came right =
+    let by : IsDoneBy (deed e.call e.reply) s (after_call s e.call e.reply) = done-by s e.call e.reply in
+    let taken : IsTaken s a.cell a.rev a.delta = edit-taken s e.call e.reply a came right in
     record {
-      book = ap (λ t. t.book) same;
-      revisions = λ j. ap (λ t. revision t j) same ∙ arrived-call s n k base rev d x taken j;
+      book = by.book ∙ ap (λ d. (once_done s d).book) came;
+      revisions = arrived-revision s (after s e) a.cell a.rev a.delta taken (by.taken ∙ ap (λ d. (once_done s d).taken) came);
       taken = taken;
     }
-
--- the call and the reply of what arrived
-pub record CameBy (call : Call) (answer : Reply) (a : Arriving) : Type 0 where
-  pub base : ℕ
-  pub delta : List Step
-  pub call_is : call ≡ ByClient a.client (Delta a.cell base delta)
-  pub answer_is : answer ≡ Applied a.rev a.delta
-
-pub came-by : (call : Call) (answer : Reply) (a : Arriving) → arriving call answer ≡ Some a → CameBy call answer a
-came-by (ByClient n (Delta k base d)) (Applied rev x) a e =
-    let same : record { client = n; cell = k; rev = rev; delta = x } ≡ a = cc e in
-    subst (CameBy (ByClient n (Delta k base d)) (Applied rev x)) same (record { base = base; delta = d; call_is = refl; answer_is = refl })
-came-by call answer a e = absurd (cc e)
 
 -- the state at the client's next delivery
 abbrev pub next_state : Parts → Holder → Entry → State
 next_state n0 m e = state n0 (m.seen ++ e ∷ [])
 
-pub arrived : (n0 : Parts) (m : Holder) (e : Entry) (a : Arriving) → CameBy e.call e.reply a → IsNextEntry n0 m e → IsArrived (delivered n0 m) (next_state n0 m e) a.cell a.rev a.delta
+pub arrived : (n0 : Parts) (m : Holder) (e : Entry) (a : CellEdit) → deed e.call e.reply ≡ Edits a → IsNextEntry n0 m e → IsArrived (delivered n0 m) (next_state n0 m e) a.cell a.rev a.delta
 arrived n0 m e a by next =
-    subst (λ t. IsArrived (delivered n0 m) t a.cell a.rev a.delta) (sym (state-append n0 m.seen e)) (arrived-of (delivered n0 m) e a.client a.cell by.base a.rev by.delta a.delta by.call_is by.answer_is next.right)
+    subst (λ t. IsArrived (delivered n0 m) t a.cell a.rev a.delta) (sym (state-append n0 m.seen e)) (arrived-of (delivered n0 m) e a by next.right)
 
 -- the client with the entry received, before what it tells is taken in
 abbrev pub seen_more : Holder → Entry → Holder
@@ -218,15 +203,14 @@ own-fits s t m k rev x p is e same over old =
     (λ j q ne at. beside-fits s t k rev j x q is ne (old j q (sym (back-beside m k rev j p.buffer ne) ∙ at)))
 
 -- what is in flight is what came back
-flight-of : (m : Holder) (n k base rev : ℕ) (d x : List Step) (call : Call) (answer : Reply) → call ≡ ByClient n (Delta k base d) → answer ≡ Applied rev x → n ≡ m.number → IsOwnFlight m call answer → (p : Pending) × ((pending_of k m.pending ≡ Some p) × (x ≡ p.flight))
-flight-of m n k base rev d x call answer c a mine own = (subst (λ r. IsOwnFlight m (ByClient n (Delta k base d)) r) a (subst (λ i. IsOwnFlight m i answer) c own)) mine
+flight-of : (m : Holder) (did : Deed) (a : CellEdit) → did ≡ Edits a → a.client ≡ m.number → IsOwnFlight m did → (p : Pending) × ((pending_of a.cell m.pending ≡ Some p) × (a.delta ≡ p.flight))
+flight-of m did a came mine own = (subst (IsOwnFlight m) came own) mine
 
-received-of : (n0 : Parts) (m : Holder) (e : Entry) (a : Arriving) → CameBy e.call e.reply a → received_entry n0 m e ≡ (if a.client == m.number then with_own (seen_more m e) a.cell a.rev (pending_of a.cell m.pending) else record (seen_more m e) { pending = all_moved a.cell a.delta m.pending })
-received-of n0 m e a by =
-    ap (λ c. with_call (delivered n0 m) (seen_more m e) c e.reply) by.call_is ∙ ap (with_call (delivered n0 m) (seen_more m e) (ByClient a.client (Delta a.cell by.base by.delta))) by.answer_is
+received-of : (n0 : Parts) (m : Holder) (e : Entry) (a : CellEdit) → deed e.call e.reply ≡ Edits a → received_entry n0 m e ≡ (if a.client == m.number then with_own (seen_more m e) a.cell a.rev (pending_of a.cell m.pending) else record (seen_more m e) { pending = all_moved a.cell a.delta m.pending })
+received-of n0 m e a by = ap (with_deed (delivered n0 m).book (seen_more m e)) by
 
 -- the client's own delta came back
-pub own-mirrors : (n0 : Parts) (c c' : Client) (m : Holder) (e : Entry) (a : Arriving) → Mirrors n0 c m → IsNextEntry n0 m e → CameBy e.call e.reply a → a.client ≡ c.number
+pub own-mirrors : (n0 : Parts) (c c' : Client) (m : Holder) (e : Entry) (a : CellEdit) → Mirrors n0 c m → IsNextEntry n0 m e → deed e.call e.reply ≡ Edits a → a.client ≡ c.number
     → HasEdits c'.pending c'.outbox (with_own (seen_more m e) a.cell a.rev (pending_of a.cell m.pending))
     → ((p : Pending) → pending_of a.cell m.pending ≡ Some p → FitsCell (delivered n0 m).book a.cell p.flight → HaveServerTexts (book_after a.cell p.flight (delivered n0 m).book) c'.pending) → c' ≡ record c { revs = raised a.cell a.rev c.revs; pending = c'.pending; outbox = c'.outbox } → Mirrors n0 (record c' { cursor = length m.seen + 1 }) (received_entry n0 m e)
 own-mirrors n0 c c' m e a is next by mine edits texts rest =
@@ -234,7 +218,7 @@ own-mirrors n0 c c' m e a is next by mine edits texts rest =
     let t : State = next_state n0 m e in
     let new : IsArrived s t a.cell a.rev a.delta = arrived n0 m e a by next in
     let me : a.client ≡ m.number = mine ∙ is.number in
-    let f : (p : Pending) × ((pending_of a.cell m.pending ≡ Some p) × (a.delta ≡ p.flight)) = flight-of m a.client a.cell by.base a.rev by.delta a.delta e.call e.reply by.call_is by.answer_is me next.own in
+    let f : (p : Pending) × ((pending_of a.cell m.pending ≡ Some p) × (a.delta ≡ p.flight)) = flight-of m (deed e.call e.reply) a by me next.own in
     let m' : Holder = reposted (seen_more m e) a.cell a.rev f.0.buffer in
     let some : with_own (seen_more m e) a.cell a.rev (pending_of a.cell m.pending) ≡ m' = ap (with_own (seen_more m e) a.cell a.rev) f.1.0 in
     let received : received_entry n0 m e ≡ m' = received-of n0 m e a by ∙ (ap (λ b. if b then with_own (seen_more m e) a.cell a.rev (pending_of a.cell m.pending) else record (seen_more m e) { pending = all_moved a.cell a.delta m.pending }) (eq-eqb a.client m.number me) ∙ some) in
@@ -266,15 +250,15 @@ pub record IsForeign (n0 : Parts) (c : Client) (m : Holder) (k : ℕ) (x : List 
   pub fits : FitsText (over_option x (pending_of k m.pending)) own.source
   pub source : (cell : Cell) → found k (cells (delivered n0 m).book) ≡ Some cell → own.source ≡ with_pending (pending_of k m.pending) cell.source
 
-pub fits-cell : (n0 : Parts) (m : Holder) (e : Entry) (a : Arriving) → IsNextEntry n0 m e → CameBy e.call e.reply a → FitsCell (delivered n0 m).book a.cell a.delta
+pub fits-cell : (n0 : Parts) (m : Holder) (e : Entry) (a : CellEdit) → IsNextEntry n0 m e → deed e.call e.reply ≡ Edits a → FitsCell (delivered n0 m).book a.cell a.delta
 fits-cell n0 m e a next by =
     let taken : IsTaken (delivered n0 m) a.cell a.rev a.delta = (arrived n0 m e a by next).taken in
     record { own = taken.own; there = taken.there; fits = taken.fits }
 
-foreign-over : (n0 : Parts) (c : Client) (m : Holder) (e : Entry) (a : Arriving) → Mirrors n0 c m → (new : IsArrived (delivered n0 m) (next_state n0 m e) a.cell a.rev a.delta) → IsOver a.delta (pending_of a.cell m.pending) new.taken.own.source
+foreign-over : (n0 : Parts) (c : Client) (m : Holder) (e : Entry) (a : CellEdit) → Mirrors n0 c m → (new : IsArrived (delivered n0 m) (next_state n0 m e) a.cell a.rev a.delta) → IsOver a.delta (pending_of a.cell m.pending) new.taken.own.source
 foreign-over n0 c m e a is new = over-of a.delta (pending_of a.cell m.pending) new.taken.own.source new.taken.fits (fits-over n0 c m a.cell new.taken.own is new.taken.there)
 
-pub is-foreign : (n0 : Parts) (c : Client) (m : Holder) (e : Entry) (a : Arriving) → Mirrors n0 c m → IsNextEntry n0 m e → CameBy e.call e.reply a → IsForeign n0 c m a.cell a.delta
+pub is-foreign : (n0 : Parts) (c : Client) (m : Holder) (e : Entry) (a : CellEdit) → Mirrors n0 c m → IsNextEntry n0 m e → deed e.call e.reply ≡ Edits a → IsForeign n0 c m a.cell a.delta
 is-foreign n0 c m e a is next by =
     let new : IsArrived (delivered n0 m) (next_state n0 m e) a.cell a.rev a.delta = arrived n0 m e a by next in
     let cell : Cell = new.taken.own in
@@ -309,12 +293,13 @@ foreign-fits s t m k rev x is over old =
     (λ j q ne at. beside-fits s t k rev j x q is ne (old j q (sym (shifted-other k j x m.pending ne) ∙ at)))
 
 -- another's delta was applied
-pub foreign-mirrors : (n0 : Parts) (c c' : Client) (m : Holder) (e : Entry) (a : Arriving) → Mirrors n0 c m → IsNextEntry n0 m e → CameBy e.call e.reply a → a.client ≢ c.number → (f : IsForeign n0 c m a.cell a.delta)
-    → IsMovedOver (delivered n0 m).book c c' m a.cell a.rev a.delta (text_after (over_option a.delta (pending_of a.cell m.pending)) f.own.source) → Mirrors n0 (record c' { cursor = length m.seen + 1 }) (received_entry n0 m e)
+pub foreign-mirrors : (n0 : Parts) (c c' : Client) (m : Holder) (e : Entry) (a : CellEdit) → Mirrors n0 c m → IsNextEntry n0 m e → deed e.call e.reply ≡ Edits a → a.client ≢ c.number → (f : IsForeign n0 c m a.cell a.delta)
+    → IsMovedOver (delivered n0 m).book c c' m a.cell a.rev a.delta → Mirrors n0 (record c' { cursor = length m.seen + 1 }) (received_entry n0 m e)
 foreign-mirrors n0 c c' m e a is next by other f moved =
     let s : State = delivered n0 m in
     let t : State = next_state n0 m e in
     let o : Option Pending = pending_of a.cell m.pending in
+    let rules : IsNotebook c.book = subst IsNotebook (sym is.book) (IsNotebook-resourced (own_source m.pending) s.book is.notebook) in
     let new : IsArrived s t a.cell a.rev a.delta = arrived n0 m e a by next in
     let over : IsOver a.delta o new.taken.own.source = foreign-over n0 c m e a is new in
     let m' : Holder = record (seen_more m e) { pending = all_moved a.cell a.delta m.pending } in
@@ -326,5 +311,5 @@ foreign-mirrors n0 c c' m e a is next by other f moved =
     (record { number = ap (λ (x : Client). x.number) moved.same; revs = ap (λ (x : Client). x.revs) moved.same; nothing = ap (λ (x : Client). x.nothing) moved.same })
     (record { pending = moved.edits.pending; outbox = moved.edits.outbox; apart = moved.edits.apart })
     moved.texts
-    (ap (λ (x : Client). x.book) moved.same ∙ (ap (with_source a.cell (text_after (over_option a.delta o) f.own.source)) is.book ∙ foreign-book s t m a.cell a.rev a.delta (text_after (over_option a.delta o) f.own.source) new (live-apart s.book is.notebook) text))
+    (ap (λ (x : Client). x.book) moved.same ∙ moved-one c.book a.cell (over_option a.delta o) f.own rules f.there ∙ (ap (with_source a.cell (text_after (over_option a.delta o) f.own.source)) is.book ∙ foreign-book s t m a.cell a.rev a.delta (text_after (over_option a.delta o) f.own.source) new (live-apart s.book is.notebook) text))
     (foreign-fits s t m a.cell a.rev a.delta new over.after is.fits))

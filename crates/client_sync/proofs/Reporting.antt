@@ -11,7 +11,7 @@ use Rattle.session_ops.specs.Snapshot.{listed_revision, revision_if}
 use Rattle.client_sync.specs.Client.{Client as Holder, own_source, delivered, held, reported, with_report, with_message}
 use Rattle.client_sync.specs.Stands.{Mirrors}
 use Rattle.client_sync.specs.declared.client.Client.{Client}
-use Rattle.client_sync.proofs.Fitting.{found-number}
+use Rattle.session_ops.proofs.Live.{found-number}
 use Rattle.client_sync.proofs.Viewing.{found-held, unknown-cell}
 
 pub posted-mirrors : (n0 : Parts) (c c' : Client) (m : Holder) (op : Op) → Mirrors n0 c m → c' ≡ record c { outbox = c'.outbox } → c'.outbox ≡ c.outbox ++ op ∷ [] → Mirrors n0 c' (with_message m op)

@@ -6,9 +6,9 @@ use Rattle.std.proofs.lemmas.Option.{get_or_from_slice_get}
 use Rattle.delta.specs.declared.Step.{Step}
 use Rattle.delta.specs.Moves.{transformed}
 use Rattle.notebook.specs.declared.parts.Parts.{Parts}
-use Rattle.notebook.specs.Book.{with_source}
 use Rattle.notebook.specs.Rules.{AreDistinct}
 use Rattle.session_ops.specs.declared.entry.Op.{Op}
+use Rattle.session_ops.specs.Deeds.{book_after}
 use Rattle.client_sync.specs.Client.{Client as Holder, Pending, pending_of, with_own, reposted, without, all_moved}
 use Rattle.client_sync.specs.Moving.{over_pending, over_option}
 use Rattle.client_sync.specs.Revisions.{raised}
@@ -95,9 +95,9 @@ posted-rest c d e us os k h =
     first ∙ (ap (λ ps. record c { pending = ps; outbox = os }) (sym (ap (λ (x : Client). x.pending) first)) ∙ ap (λ ms. record c { pending = e.pending; outbox = ms }) (sym (ap (λ (x : Client). x.outbox) first)))
 
 -- a client of which a revision, then the pending edits and then a text changed
-pub moved-same : (c d e : Client) (b : Parts) (k rev : ℕ) (t s : List ℕ) → d ≡ record c { revs = raised k rev c.revs } → e ≡ record d { pending = e.pending } → b ≡ with_source k s e.book → s ≡ t
-    → record e { book = b } ≡ record c { book = with_source k t c.book; revs = raised k rev c.revs; pending = e.pending }
-moved-same c d e b k rev t s first next eb et =
+pub moved-same : (c d e : Client) (b : Parts) (k rev : ℕ) (x y : List Step) → d ≡ record c { revs = raised k rev c.revs } → e ≡ record d { pending = e.pending } → b ≡ book_after k y e.book → y ≡ x
+    → record e { book = b } ≡ record c { book = book_after k x c.book; revs = raised k rev c.revs; pending = e.pending }
+moved-same c d e b k rev x y first next eb et =
     let both : e ≡ record c { revs = raised k rev c.revs; pending = e.pending } = next ∙ ap (λ (x : Client). record x { pending = e.pending }) first in
     ap (λ (x : Client). record x { book = b }) both
-    ∙ ap (λ n. record c { book = n; revs = raised k rev c.revs; pending = e.pending }) (eb ∙ (ap (λ (x : Client). with_source k s x.book) both ∙ ap (λ w. with_source k w c.book) et))
+    ∙ ap (λ n. record c { book = n; revs = raised k rev c.revs; pending = e.pending }) (eb ∙ (ap (λ (z : Client). book_after k y z.book) both ∙ ap (λ w. book_after k w c.book) et))

@@ -11,14 +11,15 @@ use Rattle.notebook.specs.declared.parts.Parts.{Parts}
 use Rattle.notebook.specs.Book.{cells, found, resourced_cell}
 use Rattle.notebook.proofs.Sources.{found-resourced}
 use Rattle.session_ops.specs.declared.entry.Op.{Op}
-use Rattle.session_ops.specs.State.{moved_source}
+use Rattle.session_ops.specs.Deeds.{moved_source}
 use Rattle.client_sync.specs.Client.{Client as Holder, pending_of}
 use Rattle.client_sync.specs.Fits.{HasSource}
-use Rattle.client_sync.specs.Moving.{FitsCell, book_after}
+use Rattle.session_ops.specs.Deeds.{FitsCell, book_after}
 use Rattle.client_sync.specs.Stands.{HasEdits, HaveServerTexts, IsPendingAt, pending_in, in_flight}
 use Rattle.client_sync.specs.declared.pending.Unconfirmed.{Unconfirmed}
 use Rattle.client_sync.proofs.Edits.{StandsAlone}
-use Rattle.client_sync.proofs.Fitting.{found-number, one-source}
+use Rattle.session_ops.proofs.Live.{found-number}
+use Rattle.client_sync.proofs.Fitting.{one-source}
 use Rattle.client_sync.proofs.Noting.{alone}
 use Rattle.client_sync.proofs.Returning.{item-is, there-moved}
 

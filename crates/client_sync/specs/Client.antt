@@ -4,19 +4,15 @@ use Rattle.delta.specs.declared.Step.{Step}
 use Rattle.delta.specs.Steps.{inserted_by}
 use Rattle.delta.specs.Moves.{text_after, transformed, composed}
 use Rattle.delta_laws.specs.Misfits.{Misfit, misfit}
+use Rattle.limits.specs.Limits.{most_inserted}
 use Rattle.notebook.specs.declared.parts.Cell.{Cell}
 use Rattle.notebook.specs.declared.parts.Parts.{Parts}
 use Rattle.notebook.specs.Book.{cells, found, resourced}
 use Rattle.session_ops.specs.declared.entry.Op.{Op}
 use Rattle.session_ops.specs.declared.entry.Op.TheVariants.{Delta, Report}
-use Rattle.session_ops.specs.declared.entry.Call.{Call}
-use Rattle.session_ops.specs.declared.entry.Call.TheVariants.{Client as ByClient}
-use Rattle.session_ops.specs.declared.entry.Reply.{Reply}
-use Rattle.session_ops.specs.declared.entry.Reply.TheVariants.{Applied, Refused}
 use Rattle.session_ops.specs.declared.entry.Entry.{Entry}
-use Rattle.session_ops.specs.Structure.{change_of}
+use Rattle.session_ops.specs.Deeds.{Deed, Nothing, Edits, Changes, deed}
 use Rattle.session_ops.specs.State.{State, state, revision}
-use Rattle.notebook.specs.declared.change.Change.{Change}
 use Rattle.notebook.specs.Living.{gone_cells}
 
 -- a cell with a delta in flight, and what was edited since
@@ -81,7 +77,7 @@ with_fitting c cell rev d (Some why) = Unfit why
 
 abbrev pub edited_cell : Client → ℕ → ℕ → List Step → Option Cell → Edited
 edited_cell c cell rev d None = NoCell
-edited_cell c cell rev d (Some own) = if nat_lt 65536 (inserted_by d) then EditTooLong else with_fitting c cell rev d (misfit d own.source)
+edited_cell c cell rev d (Some own) = if nat_lt most_inserted (inserted_by d) then EditTooLong else with_fitting c cell rev d (misfit d own.source)
 
 -- an edit, judged by the client's own text
 abbrev pub edited : Parts → Client → ℕ → List Step → Edited
@@ -130,26 +126,16 @@ abbrev pub without_cells : List Cell → List Pending → List Pending
 without_cells [] ps = ps
 without_cells (own ∷ cs) ps = without_cells cs (without own.id ps)
 
--- the live cells that an operation takes away, if it is accepted: a deleted cell, and those of a deleted section
-abbrev pub gone_by : Parts → Option Change → List Cell
-gone_by n None = []
-gone_by n (Some asked) = gone_cells n asked
-
--- what a client's operation makes of the pending edits and the outbox, where this was the state before: a refused one changes nothing
-abbrev pub with_op : State → Client → ℕ → Op → Reply → Client
-with_op s c n op (Refused why) = c
-with_op s c n (Delta cell base d) (Applied rev x) =
-    if n == c.number then with_own c cell rev (pending_of cell c.pending) else record c { pending = all_moved cell x c.pending }
-with_op s c n op answer = record c { pending = without_cells (gone_by s.book (change_of op)) c.pending }
-
--- what an entry makes of them; evaluations leave them
-abbrev pub with_call : State → Client → Call → Reply → Client
-with_call s c (ByClient n op) answer = with_op s c n op answer
-with_call s c call answer = c
+-- what an entry makes of the pending edits and the outbox, where this was the notebook before
+abbrev pub with_deed : Parts → Client → Deed → Client
+with_deed n c Nothing = c
+with_deed n c (Edits e) =
+    if e.client == c.number then with_own c e.cell e.rev (pending_of e.cell c.pending) else record c { pending = all_moved e.cell e.delta c.pending }
+with_deed n c (Changes asked) = record c { pending = without_cells (gone_cells n asked) c.pending }
 
 -- the client after the next entry of the history that the notebook opened
 abbrev pub received_entry : Parts → Client → Entry → Client
-received_entry n0 c e = with_call (delivered n0 c) (record c { seen = c.seen ++ e ∷ [] }) e.call e.reply
+received_entry n0 c e = with_deed (delivered n0 c).book (record c { seen = c.seen ++ e ∷ [] }) (deed e.call e.reply)
 
 abbrev pub received : Parts → Client → List Entry → Client
 received n0 c [] = c

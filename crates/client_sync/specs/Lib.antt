@@ -1,4 +1,3 @@
-pub mod Arrivals
 pub mod Causes
 pub mod Client
 pub mod Fits
@@ -7,3 +6,4 @@ pub mod Moving
 pub mod Own
 pub mod Revisions
 pub mod Stands
+pub mod Steps

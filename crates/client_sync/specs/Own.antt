@@ -4,6 +4,7 @@ use Rattle.delta.specs.declared.Step.{Step}
 use Rattle.delta.specs.Steps.{inserted_by}
 use Rattle.delta.specs.Moves.{FitsText, text_after}
 use Rattle.delta_laws.specs.Misfits.{Misfit, Past, Splits, misfit}
+use Rattle.limits.specs.Limits.{most_inserted}
 use Rattle.notebook.specs.declared.parts.Cell.{Cell}
 use Rattle.notebook.specs.declared.parts.Parts.{Parts}
 use Rattle.notebook.specs.Book.{cells, found}
@@ -14,7 +15,7 @@ use Rattle.client_sync.specs.declared.edit_error.EditError.TheVariants.{NoCell, 
 pub record IsOwnText (n : Parts) (cell : ℕ) (d : List Step) (made : List ℕ) : Type 0 where
   pub own : Cell
   pub there : found cell (cells n) ≡ Some own
-  pub short : inserted_by d ≤ 65536
+  pub short : inserted_by d ≤ most_inserted
   pub fits : FitsText d own.source
   pub text : made ≡ text_after d own.source
 
@@ -22,13 +23,13 @@ pub record IsOwnText (n : Parts) (cell : ℕ) (d : List Step) (made : List ℕ) 
 pub record IsOwnMisfit (n : Parts) (cell : ℕ) (d : List Step) (why : Misfit) : Type 0 where
   pub own : Cell
   pub there : found cell (cells n) ≡ Some own
-  pub short : inserted_by d ≤ 65536
+  pub short : inserted_by d ≤ most_inserted
   pub unfit : misfit d own.source ≡ Some why
 
 -- why the edit is refused
 abbrev pub IsOwnFault : Parts → ℕ → List Step → EditError → Type 0
 IsOwnFault n cell d NoCell = found cell (cells n) ≡ None
-IsOwnFault n cell d EditTooLong = ((c : Cell) × (found cell (cells n) ≡ Some c)) × (65536 < inserted_by d)
+IsOwnFault n cell d EditTooLong = ((c : Cell) × (found cell (cells n) ≡ Some c)) × (most_inserted < inserted_by d)
 IsOwnFault n cell d (PastEnd len) = IsOwnMisfit n cell d (Past len)
 IsOwnFault n cell d (SplitsPair at) = IsOwnMisfit n cell d (Splits at)
 IsOwnFault n cell d OutOfMemory = Unit {0}

@@ -1,5 +1,5 @@
 -- What a client in memory stands for.
-use Rattle.std.specs.Prelude.{◌≡◌, ◌≤◌, ℕ, true, List, [], ◌∷◌, ◌++◌, length, map, Option, Some, None}
+use Rattle.std.specs.Prelude.{◌≡◌, ℕ, true, List, [], ◌∷◌, ◌++◌, length, map, Option, Some, None}
 use Rattle.std.specs.Option.{option_copied}
 use Rattle.std.specs.List.{AllByRecursion}
 use Rattle.delta.specs.declared.Step.{Step}
@@ -9,13 +9,10 @@ use Rattle.notebook.specs.Rules.{AreDistinct, IsNotebook}
 use Rattle.session_ops.specs.declared.entry.Op.{Op}
 use Rattle.session_ops.specs.declared.entry.Op.TheVariants.{Delta}
 use Rattle.session_ops.specs.Structure.{is_postable}
-use Rattle.session_ops.specs.declared.entry.Call.{Call}
-use Rattle.session_ops.specs.declared.entry.Call.TheVariants.{Client as ByClient}
-use Rattle.session_ops.specs.declared.entry.Reply.{Reply}
-use Rattle.session_ops.specs.declared.entry.Reply.TheVariants.{Applied}
 use Rattle.session_ops.specs.declared.entry.Entry.{Entry}
+use Rattle.session_ops.specs.Deeds.{Deed, Nothing, Edits, Changes, deed}
 use Rattle.session_ops.specs.Born.{TouchesMadeCells}
-use Rattle.session_ops.specs.State.{State, reply, revision}
+use Rattle.session_ops.specs.State.{reply}
 use Rattle.session_ops.specs.Snapshot.{HasRevisions}
 use Rattle.client_sync.specs.Client.{Client as Holder, Pending, pending_of, held, delivered}
 use Rattle.client_sync.specs.Fits.{HasSource, FitsHere}
@@ -77,19 +74,24 @@ pub record Mirrors (n0 : Parts) (c : Client) (m : Holder) : Type 0 where
   pub notebook : IsNotebook (delivered n0 m).book
   pub made : TouchesMadeCells (delivered n0 m)
 
+-- what holds at each opening notebook and client of the definitions for which the one in memory stands
+abbrev pub ForEachHolder : Client → (Parts → Holder → Type 0) → Type 0
+ForEachHolder c P = (n0 : Parts) (m : Holder) → Mirrors n0 c m → P n0 m
+
 -- an operation that may be posted as it is
 abbrev pub IsPostable : Op → Type 0
 IsPostable op = is_postable op ≡ true
 
 -- a delta of the client's own that came back is what it has in flight
-abbrev pub IsOwnFlight : Holder → Call → Reply → Type 0
-IsOwnFlight m (ByClient n (Delta cell base d)) (Applied rev x) = n ≡ m.number → (p : Pending) × ((pending_of cell m.pending ≡ Some p) × (x ≡ p.flight))
-IsOwnFlight m call answer = Unit {0}
+abbrev pub IsOwnFlight : Holder → Deed → Type 0
+IsOwnFlight m Nothing = Unit {0}
+IsOwnFlight m (Edits e) = e.client ≡ m.number → (p : Pending) × ((pending_of e.cell m.pending ≡ Some p) × (e.delta ≡ p.flight))
+IsOwnFlight m (Changes asked) = Unit {0}
 
 -- the next entry of the history, as the session answered it
 pub record IsNextEntry (n0 : Parts) (m : Holder) (e : Entry) : Type 0 where
   pub right : e.reply ≡ reply (delivered n0 m) e.call
-  pub own : IsOwnFlight m e.call e.reply
+  pub own : IsOwnFlight m (deed e.call e.reply)
 
 -- the message at the outbox's front was taken out, if there was one
 abbrev pub HasTaken : Parts → Holder → Client → Option Op → Type 0

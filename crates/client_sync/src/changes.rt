@@ -18,7 +18,9 @@ pub(crate) fn gone_numbers(
     book: &Notebook,
     asked: &Change,
 ) -> Result<Vec<CellId>, AllocError>
-    ensures { (n n' : Parts) (made : Changed) (own : Cell → List ℕ) → book.now ≡ resourced own n → change n asked.now ≡ Makes n' made → IfOk result (λ ids. ids.items ≡ map cell_number (gone_cells n asked.now)) }
+    ensures { (n n' : Parts) (made : Changed) (own : Cell → List ℕ) →
+        book.now ≡ resourced own n → change n asked.now ≡ Makes n' made →
+        IfOk result (λ ids. ids.items ≡ map cell_number (gone_cells n asked.now)) }
 {
     match asked {
         Change::DeleteCell { cell } => Ok(Vec::from_array(alloc, [*cell])?),

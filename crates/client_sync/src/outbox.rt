@@ -1,5 +1,5 @@
 //! The messages that the server hasn't taken yet.
-ghost use Rattle.std.specs.Prelude.{◌≡◌, ◌∷◌, [], ◌++◌, length, slice_get, Some, None, MatchOption, OnOk, OnErr};
+ghost use Rattle.std.specs.Prelude.{◌≡◌, ◌∷◌, [], ◌++◌, length, slice_get, MatchOption, OnOk, OnErr};
 ghost use Rattle.std.specs.Option.{option_copied};
 
 use session_ops::Op;
@@ -57,14 +57,16 @@ impl Outbox {
 
     /// Takes the message at the front out.
     pub(crate) fn take_front(&mut self) -> Option<Op>
-        ensures { MatchOption result ((self.old ≡ []) × (self.new ≡ [])) (λ op. self.old ≡ op ∷ self.new) }
+        ensures { MatchOption result ((self.old ≡ []) × (self.new ≡ []))
+            (λ op. self.old ≡ op ∷ self.new) }
     {
         self.ops.pop_front()
     }
 
     /// Takes the message at the end out again.
     pub(crate) fn take_last(&mut self) -> Option<Op>
-        ensures { MatchOption result ((self.old ≡ []) × (self.new ≡ [])) (λ op. self.old ≡ self.new ++ op ∷ []) }
+        ensures { MatchOption result ((self.old ≡ []) × (self.new ≡ []))
+            (λ op. self.old ≡ self.new ++ op ∷ []) }
     {
         self.ops.pop_back()
     }

@@ -17,8 +17,9 @@ pub struct Unconfirmed {
     pub buffer: Delta,
 }
 
-/// What a client has pending for a cell. `inflight` is the delta that was posted and hasn't come back,
-/// `None` where there is none; it may have become empty. `buffer` is what was edited since then.
+/// What a client has pending for a cell. `inflight` is the delta that was posted and hasn't come
+/// back, `None` where there is none; it may have become empty. `buffer` is what was edited since
+/// then.
 #[derive(Clone, Copy, Debug)]
 pub struct PendingEdits<'a> {
     pub inflight: Option<&'a Delta>,
@@ -27,7 +28,8 @@ pub struct PendingEdits<'a> {
 
 /// The place of the first pending edits of a cell.
 pub(crate) fn place_of(pending: &[Unconfirmed], cell: CellId) -> Option<usize>
-    ensures { MatchOption result (pending_of cell (map pending_in pending.now) ≡ None) (IsPendingAt pending.now cell) }
+    ensures { MatchOption result (pending_of cell (map pending_in pending.now) ≡ None)
+        (IsPendingAt pending.now cell) }
 {
     for (at, edits) in pending.iter().enumerate() {
         if edits.cell == cell {

@@ -8,8 +8,7 @@ use Rattle.notebook.specs.declared.parts.Parts.{Parts}
 use Rattle.session_ops.specs.declared.entry.Entry.{Entry}
 use Rattle.notebook.specs.Rules.{IsNotebook}
 use Rattle.session_ops.specs.State.{State, state, revision, entries_by}
-use Rattle.session_ops.specs.Snapshot.{IsSnapshot}
-use Rattle.session_ops.specs.declared.snapshot.Snapshot.{Snapshot}
+use Rattle.session_ops.specs.Snapshot.{IsSnapshot, Snapshot}
 use Rattle.session_ops.proofs.Growing.{state-append}
 use Rattle.session_ops.proofs.Settled.{nothing-changed}
 use Rattle.session_core.specs.Session.{IsSession, entry_of}

@@ -240,7 +240,7 @@ fn end_of(player: &Player) -> Result<String, AllocError>
     let mut out = String::new(player.alloc);
     push_plain(&mut out, "end\n")?;
     let snapshot = player.session.snapshot()?;
-    push_book(&mut out, &snapshot.book, snapshot.revs.as_slice())?;
+    push_book(&mut out, snapshot.book(), snapshot.revs())?;
     push_statuses(
         &mut out,
         player.alloc,

@@ -19,7 +19,8 @@ use Rattle.session_ops.specs.declared.entry.Refusal.{Refusal}
 use Rattle.session_ops.specs.declared.entry.Refusal.TheVariants.{NoCell}
 use Rattle.session_ops.specs.declared.entry.Refusal.TheVariants as refusal
 use Rattle.session_ops.specs.declared.entry.Reply.{Reply}
-use Rattle.session_ops.specs.State.{State, state, after_call, reply, delta_reply, report_reply, moved_source, revision}
+use Rattle.session_ops.specs.Deeds.{moved_source}
+use Rattle.session_ops.specs.State.{State, state, after_call, reply, delta_reply, report_reply, revision}
 use Rattle.session_ops.specs.Numbers.{is_in}
 use Rattle.session_ops.proofs.Live.{found-number, live-apart}
 use Rattle.session_ops.proofs.Orderly.{orderly-state}

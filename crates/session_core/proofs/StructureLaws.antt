@@ -24,7 +24,8 @@ use Rattle.session_ops.specs.declared.entry.Refusal.TheVariants.{NotJoined}
 use Rattle.session_ops.specs.declared.entry.Reply.TheVariants.{Refused}
 use Rattle.session_ops.specs.Numbers.{is_in, AreOnce}
 use Rattle.session_ops.specs.Orderly.{IsOrderly}
-use Rattle.session_ops.specs.State.{State, Began, reply, joined_reply, stranger_reply, change_reply, attempt_reply, made_reply, after_op, begins_now, beginnings_of, first_source, once_made, once_changed}
+use Rattle.session_ops.specs.Deeds.{changes_if}
+use Rattle.session_ops.specs.State.{State, Began, reply, joined_reply, stranger_reply, change_reply, attempt_reply, made_reply, after_op, begins_now, beginnings_of, first_source, once_made, once_done}
 use Rattle.session_ops.specs.Structure.{change_of}
 use Rattle.session_ops.proofs.Changes.{changed-so}
 use Rattle.session_ops.proofs.Fresh.{fresh-taken, fresh-floor, fresh-source, kept-source}
@@ -334,7 +335,7 @@ structure-stranger : (op : Op) → IsSome (change_of op) → stranger_reply op �
 structure-stranger Join h = absurd (cc h)
 structure-stranger op h = refl
 
-structure-after : (s : State) (client : ℕ) (op : Op) (made : Changed) → IsSome (change_of op) → after_op s client op (made_reply made) ≡ once_changed s (change_of op)
+structure-after : (s : State) (client : ℕ) (op : Op) (made : Changed) → IsSome (change_of op) → after_op s client op (made_reply made) ≡ once_done s (changes_if (change_of op))
 structure-after s client Join made h = absurd (cc h)
 structure-after s client Leave made h = absurd (cc h)
 structure-after s client (Delta cell base d) made h = absurd (cc h)
@@ -362,7 +363,7 @@ changed-session n0 s m s' by client op asked made is member a done grown eb ej e
     let st : State = state_of n0 s in
     let t : State = once_made st (Makes m.book made) in
     let h : Holds t m = done.1 in
-    let now : after_op st client op (made_reply made) ≡ t = structure-after st client op made (asks op asked a) ∙ (ap (once_changed st) a ∙ ap (once_made st) done.0) in
+    let now : after_op st client op (made_reply made) ≡ t = structure-after st client op made (asks op asked a) ∙ (ap (λ o. once_done st (changes_if o)) a ∙ ap (once_made st) done.0) in
     let right : made_reply made ≡ reply st (Client client op) = sym (member-change n0 s client op asked is member a ∙ ap attempt_reply done.0) in
     let held : Holds (record t { work = swept t.book t.work }) s' = record {
       book = eb ∙ h.book;

@@ -1,4 +1,5 @@
 pub mod Changes
+pub mod Deeds
 pub mod Fresh
 pub mod Growing
 pub mod Lists
@@ -9,6 +10,7 @@ pub mod Orderly
 pub mod Ready
 pub mod Settled
 pub mod Shown
+pub mod Snapshots
 pub mod Sources
 pub mod Steps
 pub mod Structures

@@ -25,7 +25,8 @@ use Rattle.lanes.specs.Changes.{new_mark, marked, as_asked, as_begun, as_stored,
 use Rattle.session_ops.specs.declared.entry.Entry.{Entry}
 use Rattle.session_ops.specs.Orderly.{IsCodeKind, IsCodeLive, IsBeganBelow, IsTakenBelow, IsKnownBelow, has_begun, HaveBegun, IsLiveMark, IsLiveRun, mark_cell, IsOrderly}
 use Rattle.session_ops.specs.Numbers.{AreOnce, is_in, is_other}
-use Rattle.session_ops.specs.State.{State, Began, beginnings, beginnings_of, begins_now, revision, knows_all, moved_source, is_of_other, once_left, once_made, opening, state, Legal}
+use Rattle.session_ops.specs.Deeds.{moved_source}
+use Rattle.session_ops.specs.State.{State, Began, beginnings, beginnings_of, begins_now, revision, knows_all, is_of_other, once_left, once_made, opening, state, Legal}
 use Rattle.session_ops.proofs.Lists.{all-append, all-kept, all-weaker}
 use Rattle.session_ops.proofs.Marks.{all-map, all-marked, all-remarked}
 use Rattle.session_ops.proofs.Live.{found-number, found-below, live-below, HasNumberBelow, may-live}

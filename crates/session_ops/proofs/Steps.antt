@@ -30,7 +30,8 @@ use Rattle.session_ops.specs.declared.entry.Entry.{Entry}
 use Rattle.session_ops.specs.Numbers.{is_in}
 use Rattle.session_ops.specs.Orderly.{IsCodeKind}
 use Rattle.session_ops.specs.Structure.{change_of}
-use Rattle.session_ops.specs.State.{State, Job, Misfit, revision, least, taken_by, knows_all, moved_source, once_left, once_made, once_changed, after_op, after_call, after, reply, joined_reply, stranger_reply, delta_reply, judged_by, misfit, report_reply, code_reply, queue_reply, queue_reply_by, cancel_reply, cancel_reply_by, change_reply, start_reply, respond_reply, attempt_reply, opening, state, state_from, jobs_after, HasReplies, Legal}
+use Rattle.session_ops.specs.Deeds.{Changes, moved_source}
+use Rattle.session_ops.specs.State.{State, Job, Misfit, revision, least, taken_by, knows_all, once_left, once_made, once_done, after_op, after_call, after, reply, joined_reply, stranger_reply, delta_reply, judged_by, misfit, report_reply, code_reply, queue_reply, queue_reply_by, cancel_reply, cancel_reply_by, change_reply, start_reply, respond_reply, attempt_reply, opening, state, state_from, jobs_after, HasReplies, Legal}
 
 -- the state after each kind of call that isn't refused
 abbrev pub once_joined : State → ℕ → State
@@ -120,9 +121,9 @@ cancel-keeps P k s n cell (Some c) h f = cancel-by P k s n cell c c.kind (is_que
 pub record IsChange (op : Op) (asked : Change) : Type 0 where
   pub asks : change_of op ≡ Some asked
   pub reply : (s : State) → joined_reply s op ≡ change_reply s (Some asked)
-  pub accepted : (s : State) (n : ℕ) → after_op s n op Accepted ≡ once_changed s (Some asked)
-  pub cell : (s : State) (n c : ℕ) → after_op s n op (NewCell c) ≡ once_changed s (Some asked)
-  pub section : (s : State) (n c : ℕ) → after_op s n op (NewSection c) ≡ once_changed s (Some asked)
+  pub accepted : (s : State) (n : ℕ) → after_op s n op Accepted ≡ once_done s (Changes asked)
+  pub cell : (s : State) (n c : ℕ) → after_op s n op (NewCell c) ≡ once_done s (Changes asked)
+  pub section : (s : State) (n c : ℕ) → after_op s n op (NewSection c) ≡ once_done s (Changes asked)
 
 -- what the change of the structure was answered with, it made
 attempt-keeps : (P : State → Type 0) → KeepsOps P → (s : State) (n : ℕ) (op : Op) (asked : Change) (a : Attempt) → IsChange op asked → P s → change s.book asked ≡ a → P (after_op s n op (attempt_reply a))

@@ -1,7 +1,9 @@
 pub mod Numbers
 pub mod Structure
+pub mod Deeds
 pub mod Same
 pub mod State
+pub mod Next
 pub mod Snapshot
 pub mod Born
 pub mod Orderly

@@ -2,7 +2,7 @@
 use Rattle.std.specs.Prelude.{◌≡◌, ℕ, ◌+◌, ◌==◌, ◌&&◌, ◌||◌, nat_lt, max, min, if◌then◌else◌, Bool, List, [], ◌∷◌, ◌++◌, not, length, drop, map, filter, find, Option, Some, None, IsSome, unwrap_or}
 use Rattle.std.specs.Str.{encode_utf8_all}
 use Rattle.delta.specs.declared.Step.{Step}
-use Rattle.delta.specs.Moves.{text_after, over}
+use Rattle.delta.specs.Moves.{over}
 pub use Rattle.delta_laws.specs.Misfits.{Misfit, Past, Splits, misfit, split_misfit}
 use Rattle.notebook.specs.declared.parts.Cell.{Cell}
 use Rattle.notebook.specs.declared.parts.Parts.{Parts}
@@ -11,7 +11,7 @@ use Rattle.ex_model.specs.declared.ran.Shown.{Shown}
 use Rattle.ex_model.specs.Along.{IsShown}
 use Rattle.notebook.specs.declared.parts.Kind.{Kind}
 use Rattle.notebook.specs.declared.parts.Kind.TheVariants.{Setup, Code, Markdown}
-use Rattle.notebook.specs.Book.{cells, found, resourced}
+use Rattle.notebook.specs.Book.{cells, found}
 use Rattle.notebook.specs.Flow.{path}
 use Rattle.notebook.specs.declared.change.Change.{Change}
 use Rattle.notebook.specs.declared.change.Changed.{Changed}
@@ -34,6 +34,7 @@ use Rattle.session_ops.specs.declared.entry.Reply.TheVariants.{Accepted, Applied
 use Rattle.session_ops.specs.declared.entry.Entry.{Entry}
 use Rattle.session_ops.specs.Numbers.{is_in, without_number}
 use Rattle.session_ops.specs.Structure.{change_of}
+use Rattle.session_ops.specs.Deeds.{Deed, Nothing, Edits, Changes, deed, noted}
 
 -- a delta that a cell's source took
 pub record Taken : Type 0 where
@@ -207,10 +208,6 @@ abbrev pub knows_all : State → ℕ → List Cell → List Known
 knows_all s n [] = []
 knows_all s n (c ∷ cs) = record { client = n; cell = c.id; rev = revision s c.id } ∷ knows_all s n cs
 
--- a cell's source after a delta that one of the cells takes
-abbrev pub moved_source : ℕ → List Step → Cell → List ℕ
-moved_source cell x c = if c.id == cell then text_after x c.source else c.source
-
 -- of a client that left nothing is known
 abbrev pub is_of_other : ℕ → Known → Bool
 is_of_other n k = not (k.client == n)
@@ -228,21 +225,22 @@ abbrev pub once_made : State → Attempt → State
 once_made s (Makes n made) = record s { book = n; began = s.began ++ begins_now n made; work = housed n s.work }
 once_made s (Fails why) = s
 
-abbrev pub once_changed : State → Option Change → State
-once_changed s None = s
-once_changed s (Some c) = once_made s (change s.book c)
+-- what an entry did to the notebook
+abbrev pub once_done : State → Deed → State
+once_done s Nothing = s
+once_done s (Edits e) =
+    record s { book = noted (Edits e) s.book; taken = s.taken ++ record { cell = e.cell; delta = e.delta } ∷ []; known = s.known ++ record { client = e.client; cell = e.cell; rev = e.rev } ∷ [] }
+once_done s (Changes c) = once_made s (change s.book c)
 
 -- the state after a client's operation that was answered so
 abbrev pub after_op : State → ℕ → Op → Reply → State
 after_op s n op (Refused why) = s
 after_op s n Join answer = record s { joined = s.joined ++ n ∷ []; known = s.known ++ knows_all s n (cells s.book) }
 after_op s n Leave answer = once_left n s
-after_op s n (Delta cell base d) (Applied rev x) =
-    record s { book = resourced (moved_source cell x) s.book; taken = s.taken ++ record { cell = cell; delta = x } ∷ []; known = s.known ++ record { client = n; cell = cell; rev = rev } ∷ [] }
 after_op s n (Report cell rev) answer = record s { known = s.known ++ record { client = n; cell = cell; rev = rev } ∷ [] }
 after_op s n (Queue cell) answer = record s { work = asked cell s.work }
 after_op s n (Cancel cell) answer = record s { work = cancelled cell s.work }
-after_op s n op answer = once_changed s (change_of op)
+after_op s n op answer = once_done s (deed (Client n op) answer)
 
 -- the state after a call that was answered so; a refused call changes nothing
 abbrev pub after_call : State → Call → Reply → State

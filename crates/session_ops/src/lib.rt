@@ -5,8 +5,10 @@
 //! and the definitions in `specs/State.antt` say which reply each call gets and what it changes.
 #![tactic(auto)]
 
+mod deed;
 mod entry;
 mod snapshot;
 
+pub use deed::{CellEdit, Deed, edit_source};
 pub use entry::{Call, Entry, Op, Refusal, Reply};
 pub use snapshot::Snapshot;

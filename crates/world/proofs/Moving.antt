@@ -24,13 +24,15 @@ use Rattle.session_ops.specs.declared.entry.Refusal.TheVariants.{NotJoined, TooN
 use Rattle.session_ops.specs.declared.entry.Reply.{Reply}
 use Rattle.session_ops.specs.declared.entry.Reply.TheVariants.{Applied, Started, Stored, Refused}
 use Rattle.session_ops.specs.declared.entry.Entry.{Entry}
-use Rattle.session_ops.specs.State.{State, Job, Taken, Misfit, Past, Splits, after, after_call, after_op, state_from, taken_by, revision, least, misfit, split_misfit, moved_source, reply, delta_reply, judged_by, HasReplies, jobs_from, jobs_after}
+use Rattle.session_ops.specs.Deeds.{moved_source}
+use Rattle.session_ops.specs.State.{State, Job, Taken, Misfit, Past, Splits, after, after_call, after_op, state_from, taken_by, revision, least, misfit, split_misfit, reply, delta_reply, judged_by, HasReplies, jobs_from, jobs_after}
 use Rattle.session_ops.specs.Structure.{change_of}
 use Rattle.session_ops.specs.Numbers.{is_in}
 use Rattle.client_sync.specs.Client.{Pending, joined_client}
 use Rattle.client_sync.specs.Fits.{HasSource}
 use Rattle.world.specs.Applied.{applied_by, applied_in, is_own_call, text_after_each, FitInTurn}
 use Rattle.world.proofs.Changing.{IsPassing, Stays, Goes, Begins, IsGrown, live-below, call-passing, call-grown, is_applied, once-taken}
+use Rattle.world.proofs.Quiet.{quiet-edits, quiet-own}
 
 -- a delta fits a text where nothing keeps it from it
 split-none : (o : Option ℕ) → split_misfit o ≡ None → o ≡ None
@@ -90,11 +92,17 @@ pub record IsGone (n : Parts) (k : ℕ) : Type 0 where
 -- what is so of calls that apply no delta
 pub applied-none : (call : Call) (answer : Reply) (k : ℕ) → is_applied call answer ≡ false → applied_by k call answer ≡ []
 applied-none (ByClient n (Delta j base d)) (Applied rev x) k e = absurd (cc e)
-applied-none call answer k e = refl
+applied-none (ByClient n op) (Refused why) k e = refl
+applied-none (ByClient n op) answer k e = quiet-edits k (change_of op)
+applied-none (Start lane) answer k e = refl
+applied-none (Respond eval shown) answer k e = refl
 
 pub own-none : (call : Call) (answer : Reply) (n k : ℕ) → is_applied call answer ≡ false → is_own_call n k call answer ≡ false
 own-none (ByClient m (Delta j base d)) (Applied rev x) n k e = absurd (cc e)
-own-none call answer n k e = refl
+own-none (ByClient m op) (Refused why) n k e = refl
+own-none (ByClient m op) answer n k e = quiet-own n k (change_of op)
+own-none (Start lane) answer n k e = refl
+own-none (Respond eval shown) answer n k e = refl
 
 -- the deltas that a cell took
 more-of : (b : Bool) (d : List Step) (xs ys : List (List Step)) → (if b then d ∷ (xs ++ ys) else xs ++ ys) ≡ (if b then d ∷ xs else xs) ++ ys
@@ -182,7 +190,7 @@ call-gone-applied s (ByClient n (Delta j base d)) (Applied rev x) k e gone =
     as (λ b. (j == k) ≡ b → (if b then x ∷ [] else []) ≡ [])
     [ true ↦ λ t. let wrong : Some is.own ≡ None = sym is.there ∙ subst (λ i. found i (cells s.book) ≡ None) (sym (eqb-true j k t)) gone.none in absurd (cc wrong) | false ↦ λ t. refl ]
     refl
-call-gone-applied s call answer k e gone = refl
+call-gone-applied s call answer k e gone = applied-none call answer k refl
 
 passed-gone : (s t : State) (ps ps' : List Pending) (k : ℕ) → IsGrown s.book t.book → IsGone s.book k → IsPassing s.book t.book ps ps' k → IsGone t.book k
 passed-gone s t ps ps' k grown gone (Stays e same) = record { none = e ∙ gone.none; below = let lt : k < s.book.next_cell = gone.below in let le : s.book.next_cell ≤ t.book.next_cell = grown.1 in omega (arith, lt, le) }
@@ -270,7 +278,7 @@ call-fits s (ByClient n (Delta j base d)) (Applied rev x) k t h e =
       | false ↦ λ same. tt
     ]
     refl
-call-fits s call answer k t h e = tt
+call-fits s call answer k t h e = subst (FitInTurn t) (sym (applied-none call answer k refl)) tt
 
 turn-append : (t : List ℕ) (xs ys : List (List Step)) → FitInTurn t xs → FitInTurn (text_after_each t xs) ys → FitInTurn t (xs ++ ys)
 turn-append t [] ys a b = b

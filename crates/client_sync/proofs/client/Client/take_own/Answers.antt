@@ -1,7 +1,7 @@
 use Rattle.std.proofs.Common.{◌≡◌, None, Some, map, sym, ap, subst, ◌∙◌}
 use Rattle.std.specs.Prelude.{OnOk}
 use Rattle.client_sync.specs.Client.{pending_of}
-use Rattle.client_sync.specs.Moving.{FitsCell, book_after}
+use Rattle.session_ops.specs.Deeds.{FitsCell, book_after}
 use Rattle.client_sync.specs.Stands.{HasEdits, HaveServerTexts, IsPendingAt, pending_in}
 use Rattle.client_sync.proofs.Noting.{pending-here}
 use Rattle.client_sync.proofs.client.Client.take_own.Goals as goal
