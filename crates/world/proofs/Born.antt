@@ -13,7 +13,8 @@ use Rattle.session_ops.specs.State.{State, Job, Legal, opening, state, state_fro
 use Rattle.session_ops.specs.Born.{TouchesMadeCells}
 use Rattle.world.specs.Applied.{applied_by, applied_in}
 use Rattle.world.proofs.Changing.{IsGrown, call-grown, live-below}
-use Rattle.world.proofs.Moving.{IsTaken, applied-none, applied-taken, from-grown, from-taken}
+use Rattle.session_ops.proofs.Deeds.{IsTaken, applied-taken}
+use Rattle.world.proofs.Moving.{applied-none, from-grown, from-taken}
 
 call-unborn : (s : State) (call : Call) (answer : Reply) (k : ℕ) → IsNotebook s.book → answer ≡ reply s call → s.book.next_cell ≤ k → applied_by k call answer ≡ []
 call-unborn s (ByClient n (Delta j base d)) (Applied rev x) k h e le =

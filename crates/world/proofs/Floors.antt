@@ -25,7 +25,8 @@ use Rattle.session_ops.specs.Numbers.{is_in, without_number}
 use Rattle.session_ops.proofs.Lists.{all-append, all-kept, all-weaker, in-more}
 use Rattle.world.specs.Applied.{applied_by, is_own_call, is_leaving, HasNotLeft}
 use Rattle.world.proofs.Changing.{call-grown, live-below, below-front, once-known, once-joined, is_refused}
-use Rattle.world.proofs.Moving.{IsTaken, applied-taken, call-taken}
+use Rattle.session_ops.proofs.Deeds.{IsTaken, applied-taken}
+use Rattle.world.proofs.Moving.{call-taken}
 
 -- one who has joined and doesn't leave is still there
 without-kept : (m n : ℕ) (ns : List ℕ) → (m == n) ≡ false → is_in n (without_number m ns) ≡ is_in n ns

@@ -33,7 +33,8 @@ use Rattle.world.specs.Applied.{is_leaving, HasNotLeft}
 use Rattle.world.specs.Waiting.{Message, message_in, messages_for, IsKept, HasLived, HasNoPassage, IsHonest, AreHonest, WasDeleted, IsFairAnswer, AreFair}
 use Rattle.world.proofs.Clients.{put-all, client-is, received-seen, received-number, all-from-all, all-absent, all-without, put-others}
 use Rattle.world.proofs.Standing.{AreQuietlyThere, event-whole, call-legal, join-since, rest-after, stays-by, stays-other, whole-agree}
-use Rattle.world.proofs.Moving.{IsGone, from-more, from-grown, rest-replies, call-gone, IsTaken, applied-taken}
+use Rattle.session_ops.proofs.Deeds.{IsTaken, applied-taken}
+use Rattle.world.proofs.Moving.{IsGone, from-more, from-grown, rest-replies, call-gone}
 use Rattle.world.proofs.Floors.{IsAside, from-stays, call-stays, known-well, floor-up, floor-unborn, stranger-call, refused-aside, evaluator-call}
 use Rattle.world.proofs.Keeping.{IsOthers, kept-more}
 use Rattle.world.proofs.Outboxes.{here-lived, lived-more, lived-below, lived-added, edit-of, passage-added}

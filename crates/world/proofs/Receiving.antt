@@ -22,13 +22,15 @@ use Rattle.session_ops.specs.declared.entry.Reply.TheVariants.{Applied, Refused}
 use Rattle.session_ops.specs.declared.entry.Entry.{Entry}
 use Rattle.session_ops.specs.Structure.{change_of}
 use Rattle.session_ops.specs.Deeds.{deed, moved_source}
-use Rattle.session_ops.specs.State.{State, state_from, after, after_call, taken_by, revision, floor, reply, misfit}
+use Rattle.session_ops.specs.State.{State, state_from, after, after_call, taken_by, revision, floor, reply}
 use Rattle.client_sync.specs.Client.{Client, Pending, pending_of, all_moved, without, with_own, with_deed, reposted}
 use Rattle.client_sync.specs.Fits.{HasSource, FitsHere}
 use Rattle.world.specs.Applied.{applied_by, is_own, is_own_call, text_after_each}
 use Rattle.world.specs.Waiting.{messages_for, AreReports, IsQuiet, IsKeptLive, IsKept}
 use Rattle.world.proofs.Changing.{IsPassing, Stays, call-passing, is_applied, is_applied_op}
-use Rattle.world.proofs.Moving.{IsTaken, applied-taken, one-source, fits-from, found-number, taken-source, grown-revision, applied-none, own-none}
+use Rattle.session_ops.proofs.Deeds.{IsTaken, applied-taken}
+use Rattle.session_ops.proofs.Live.{found-number}
+use Rattle.world.proofs.Moving.{one-source, taken-source, grown-revision, applied-none, own-none}
 use Rattle.world.proofs.Keeping.{IsOwnBack, own-back, not-quiet, kept-passed, live-moved, live-from, live-kept, kept-ops, reports-weaker}
 use Rattle.world.proofs.Pendings.{shifted_option, shifted-same, shifted-other, without-same, without-other, pending-added, pending-beside, messages-append, edit-here, edit-beside}
 use Rattle.world.proofs.Quiet.{quiet-outbox}
@@ -72,7 +74,7 @@ entry-book s e call answer is = ap (λ c. (after_call s c e.reply).book) is.call
 taken-fits : (s : State) (m j base rev : ℕ) (d x : List Step) → Applied rev x ≡ reply s (ByClient m (Delta j base d)) → (t : List ℕ) → HasSource s.book j t → FitsText x t
 taken-fits s m j base rev d x right t h =
     let is : IsTaken s j rev x = applied-taken s m j base rev d x (sym right) in
-    fits-from x t (subst (λ u. misfit x u ≡ None) (one-source s.book j t is.own h is.there) is.fits)
+    subst (FitsText x) (one-source s.book j t is.own h is.there) is.fits
 
 -- a delta leaves each other cell as it is
 other-cell : (j k : ℕ) (x : List Step) (o : Option Cell) → (j == k) ≡ false → ((c : Cell) → o ≡ Some c → c.id ≡ k) → option_map (resourced_cell (moved_source j x)) o ≡ o
