@@ -1,5 +1,5 @@
 -- The clients in memory, and what they stand for.
-use Rattle.std.specs.Prelude.{◌≡◌, ◌<◌, ℕ, ◌+◌, ◌==◌, if◌then◌else◌, List, [], ◌∷◌, length, take, remove, get_or, slice_set, Option, Some, None}
+use Rattle.std.specs.Prelude.{◌≡◌, ◌<◌, ℕ, ◌+◌, ◌==◌, if◌then◌else◌, List, [], ◌∷◌, length, take, remove, get_or, slice_set, Option, Some, None, Bool, not, map, IfOk, OnOk, Result}
 use Rattle.notebook.specs.declared.parts.Parts.{Parts}
 use Rattle.notebook.specs.Rules.{IsNotebook}
 use Rattle.session_ops.specs.declared.entry.Entry.{Entry}
@@ -7,7 +7,11 @@ use Rattle.session_ops.specs.State.{Legal}
 use Rattle.client_sync.specs.Client.{Client as Holder, received, client_of, put_client, without_client}
 use Rattle.client_sync.specs.Stands.{Mirrors}
 use Rattle.client_sync.specs.declared.client.Client.{Client}
-use Rattle.driver.specs.Player.{unseen}
+use Rattle.driver.specs.Player.{Game, receive_all, unseen}
+use Rattle.std.specs.List.{AllByRecursion}
+use Rattle.world.specs.Claims.{number_of}
+use Rattle.world.specs.Sound.{AreApart}
+use Rattle.world.specs.Waiting.{IsHonest}
 
 -- the clients in memory stand for these, one by one
 abbrev pub AreMirrored : Parts → List Client → List Holder → Type 0
@@ -50,3 +54,20 @@ HasReceived n0 h many m x = Mirrors n0 x (received n0 m (take many (unseen m h))
 pub record IsLawful (n0 : Parts) (h : List Entry) : Type 0 where
   pub notebook : IsNotebook n0
   pub legal : Legal n0 h
+
+-- a number's client is taken out, whatever the clients stand for
+abbrev pub TakesOut : ℕ → List Client → List Client → Type 0
+TakesOut number old new = (n0 : Parts) (cs : List Holder) → AreMirrored n0 old cs → AreApart (map number_of cs) → AreMirrored n0 new (without_client number cs)
+
+-- whatever lawful history and whatever client of it this is, it receives so many entries, or the next with word whether there was one
+abbrev pub Delivers : {T E : Type 0} → Result T E → ℕ → List Entry → Client → Client → Type 0
+Delivers result many h old new = (n0 : Parts) (m : Holder) → IsLawful n0 h → IsHonest n0 h m → Mirrors n0 old m → OnOk result (HasReceived n0 h many m new)
+
+abbrev pub DeliversNext : {E : Type 0} → Result Bool E → List Entry → Client → Client → Type 0
+DeliversNext result h old new =
+    (n0 : Parts) (m : Holder) → IsLawful n0 h → IsHonest n0 h m → Mirrors n0 old m → IfOk result (λ more. HasReceived n0 h 1 m new × (more ≡ not (length (unseen m h) == 0)))
+
+-- and each of some clients all entries
+abbrev pub DeliversAll : {T E : Type 0} → Result T E → List Entry → List Client → List Client → Type 0
+DeliversAll result h old new =
+    (g : Game) (cs : List Holder) → IsLawful g.opening h → AllByRecursion (IsHonest g.opening h) cs → AreMirrored g.opening old cs → OnOk result (AreMirrored g.opening new (receive_all g h cs))
