@@ -26,7 +26,7 @@ use Rattle.driver.specs.Around.{Output, write_of, writes_of, AreWritten, AreCut}
 use Rattle.driver.specs.Player.{Game, Stage, Printed, or_none, say, unsaid, with_piece, play, play_line, settled, states_at}
 use Rattle.driver.specs.Transcript.{game, begun, printed_by, ended, finished, pieces_of, ending, end_lines}
 use Rattle.driver.specs.Headline.{AllOfRun, AllAnswered, AllClients, AllFair, TakeReadyLanes, LeaveStates, IsHistory, IsActual, IsPlayed, IsBrokenOff, IsCut, call_of}
-use Rattle.driver.specs.Clients.{AreMirrored}
+use Rattle.driver.specs.Clients.{AreMirrors}
 use Rattle.driver.specs.Standing.{Stands, HasPlayed, entries_of, turns_of}
 use Rattle.driver.specs.Ends.{IsFresh, HasEnded, EndsWritten, EndsCut, EndsLeft, IsPlayedAfter, IsCutAfter, IsLeftAfter, IsLeftOf, IsLeftSo, IsPlayedOut}
 use Rattle.driver.specs.Playing.{ArePlayed, HavePlayed, HaveBrokenOff, HaveStopped}
@@ -247,7 +247,7 @@ first-stands n0 names p fr =
       whole = record { legal = fr.session.legal; notebook = fr.session.opening; joined = tt; behind = tt };
       honest = tt;
       apart = tt;
-      mirrored = subst (λ xs. AreMirrored n0 xs []) (sym fr.clients) tt;
+      mirrored = subst (λ xs. AreMirrors n0 xs []) (sym fr.clients) tt;
     }
 
 no-turns : (n0 : Parts) (p : Player) → IsFresh n0 p → turns_of p ≡ []

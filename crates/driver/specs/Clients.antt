@@ -10,25 +10,9 @@ use Rattle.client_sync.specs.declared.client.Client.{Client}
 use Rattle.driver.specs.Player.{Game, receive_all, unseen}
 use Rattle.std.specs.List.{AllByRecursion}
 use Rattle.world.specs.Claims.{number_of}
+pub use Rattle.world.specs.Plays.{AreMirrors, later, place_in}
 use Rattle.world.specs.Sound.{AreApart}
 use Rattle.world.specs.Waiting.{IsHonest}
-
--- the clients in memory stand for these, one by one
-abbrev pub AreMirrored : Parts → List Client → List Holder → Type 0
-AreMirrored n0 [] [] = Unit {0}
-AreMirrored n0 [] (c ∷ cs) = ⊥
-AreMirrored n0 (x ∷ xs) [] = ⊥
-AreMirrored n0 (x ∷ xs) (c ∷ cs) = Mirrors n0 x c × AreMirrored n0 xs cs
-
--- a place, counted from so many places before
-abbrev pub later : ℕ → Option ℕ → Option ℕ
-later n None = None
-later n (Some at) = Some (n + at)
-
--- the first place of a number
-abbrev pub place_in : ℕ → List ℕ → Option ℕ
-place_in n [] = None
-place_in n (m ∷ ms) = if m == n then Some 0 else later 1 (place_in n ms)
 
 -- the client of the number stands at the place; another may be put there in its stead, and it may be taken out
 pub record IsAt (n0 : Parts) (xs : List Client) (cs : List Holder) (n at : ℕ) : Type 0 where
@@ -37,9 +21,9 @@ pub record IsAt (n0 : Parts) (xs : List Client) (cs : List Holder) (n at : ℕ) 
   pub number : own.number ≡ n
   pub inside : at < length xs
   pub mirrors : (x : Client) → x ≡ get_or xs at x → Mirrors n0 x own
-  pub kept : (x : Client) → Mirrors n0 x own → AreMirrored n0 (slice_set xs at x) cs
-  pub replaced : (x : Client) (c : Holder) → c.number ≡ n → Mirrors n0 x c → AreMirrored n0 (slice_set xs at x) (put_client c cs)
-  pub removed : AreMirrored n0 (remove xs at) (without_client n cs)
+  pub kept : (x : Client) → Mirrors n0 x own → AreMirrors n0 (slice_set xs at x) cs
+  pub replaced : (x : Client) (c : Holder) → c.number ≡ n → Mirrors n0 x c → AreMirrors n0 (slice_set xs at x) (put_client c cs)
+  pub removed : AreMirrors n0 (remove xs at) (without_client n cs)
 
 -- the place of the client of the number, if the number holds one
 abbrev pub IsPlace : Parts → List Client → List Holder → ℕ → Option ℕ → Type 0
@@ -57,7 +41,7 @@ pub record IsLawful (n0 : Parts) (h : List Entry) : Type 0 where
 
 -- a number's client is taken out, whatever the clients stand for
 abbrev pub TakesOut : ℕ → List Client → List Client → Type 0
-TakesOut number old new = (n0 : Parts) (cs : List Holder) → AreMirrored n0 old cs → AreApart (map number_of cs) → AreMirrored n0 new (without_client number cs)
+TakesOut number old new = (n0 : Parts) (cs : List Holder) → AreMirrors n0 old cs → AreApart (map number_of cs) → AreMirrors n0 new (without_client number cs)
 
 -- whatever lawful history and whatever client of it this is, it receives so many entries, or the next with word whether there was one
 abbrev pub Delivers : {T E : Type 0} → Result T E → ℕ → List Entry → Client → Client → Type 0
@@ -70,4 +54,4 @@ DeliversNext result h old new =
 -- and each of some clients all entries
 abbrev pub DeliversAll : {T E : Type 0} → Result T E → List Entry → List Client → List Client → Type 0
 DeliversAll result h old new =
-    (g : Game) (cs : List Holder) → IsLawful g.opening h → AllByRecursion (IsHonest g.opening h) cs → AreMirrored g.opening old cs → OnOk result (AreMirrored g.opening new (receive_all g h cs))
+    (g : Game) (cs : List Holder) → IsLawful g.opening h → AllByRecursion (IsHonest g.opening h) cs → AreMirrors g.opening old cs → OnOk result (AreMirrors g.opening new (receive_all g h cs))

@@ -1,26 +1,14 @@
 //! The clients in memory, in the order of their joining.
-ghost use Rattle.std.specs.Prelude.{◌≡◌, ◌==◌, List, map};
+ghost use Rattle.std.specs.Prelude.{◌≡◌, List};
 ghost use Rattle.notebook.specs.declared.parts.Parts.{Parts};
 ghost use Rattle.client_sync.specs.Client.{Client as Holder};
-ghost use Rattle.client_sync.specs.Stands.{number_in};
 ghost use Rattle.driver.specs.Player.{all_sent};
-ghost use Rattle.driver.specs.Clients.{AreMirrored, place_in, TakesOut, Delivers, DeliversNext, DeliversAll};
+ghost use Rattle.driver.specs.Clients.{AreMirrors, TakesOut, Delivers, DeliversNext, DeliversAll};
 
 use client_sync::Client;
 use session_ops::Entry;
 use std::alloc::AllocError;
-
-/// The place of the client of a number; `None` where the number holds none.
-pub(crate) fn place_of(clients: &[Client], number: u32) -> Option<usize>
-    ensures { result ≡ place_in number (map number_in clients.now) }
-{
-    for (at, client) in clients.iter().enumerate() {
-        if client.number() == number {
-            return Some(at);
-        }
-    }
-    None
-}
+use world::place_of;
 
 /// Takes the number's client out, if it holds one.
 pub(crate) fn remove(clients: &mut Vec<Client>, number: u32)
@@ -36,7 +24,7 @@ pub(crate) fn remove(clients: &mut Vec<Client>, number: u32)
 
 /// Whether every outbox is empty.
 pub(crate) fn all_sent(clients: &[Client]) -> bool
-    ensures { (n0 : Parts) (cs : List Holder) → AreMirrored n0 clients.now cs
+    ensures { (n0 : Parts) (cs : List Holder) → AreMirrors n0 clients.now cs
         → result ≡ all_sent cs }
 {
     for client in clients {

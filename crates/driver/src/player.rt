@@ -13,7 +13,7 @@ ghost use Rattle.driver.specs.Ends.{IsFresh};
 ghost use Rattle.driver.specs.Printed.{AppendsLine};
 ghost use Rattle.driver.specs.Plays.{game, Plays, PlaysFor, DoesFor, PlaysIn, DoesIn, PrintsIn, AsksFor, EditsOwn, PostsOwn, ReportsOwn, ReceivesOwn, RoundsIn, HasLooked, Posts};
 
-use crate::clients::{all_sent, deliver, deliver_all, place_of, remove};
+use crate::clients::{all_sent, deliver, deliver_all, remove};
 use crate::lines::{
     push_edit_refused, push_edited, push_joined, push_left, push_no_client, push_not_joined,
     push_not_posted, push_nothing_sent, push_pending, push_posted, push_raw, push_raw_joined,
@@ -32,6 +32,7 @@ use std::alloc::{AllocError, Global};
 use std::sync::Wait;
 use transcript::{push_book, push_plain};
 use utf16_text::Text;
+use world::place_of;
 
 /// The session, its clients in the order of their joining, and the marks: for each turn that made no
 /// entry, the history's length that it found.

@@ -5,7 +5,7 @@ ghost use Rattle.session_core.specs.Session.{IsSession, IsHandedOut};
 ghost use Rattle.driver.specs.Settling.{HasGoneOn, HasResponded, HasSettled};
 
 use ex_machine::run;
-use session_core::{Evaluated, PlainJob, Session, STEPS};
+use session_core::{Evaluated, PlainJob, STEPS, Session};
 use std::alloc::{AllocError, Global};
 use std::sync::Wait;
 
