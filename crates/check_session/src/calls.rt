@@ -374,7 +374,7 @@ fn validity(session: &Session, cell: CellId) -> Option<Validity> {
 /// Whether a snapshot comes after as many calls, and has as many cells.
 fn is_snapshot(session: &Session, cursor: u64, cells: usize) -> Option<bool> {
     let snapshot = session.snapshot().ok()?;
-    Some(snapshot.cursor == cursor && snapshot.revs.len() == cells)
+    Some(snapshot.cursor() == cursor && snapshot.revs().len() == cells)
 }
 
 /// Whether that stands.

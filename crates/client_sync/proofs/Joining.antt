@@ -3,9 +3,8 @@ use Rattle.std.proofs.Common.{◌≡◌, ℕ, List, [], length, map, sym, ap, su
 use Rattle.notebook.specs.declared.parts.Parts.{Parts}
 use Rattle.notebook.specs.Rules.{IsNotebook}
 use Rattle.session_ops.specs.declared.entry.Entry.{Entry}
-use Rattle.session_ops.specs.declared.snapshot.Snapshot.{Snapshot}
 use Rattle.session_ops.specs.State.{state}
-use Rattle.session_ops.specs.Snapshot.{HasRevisions, IsSnapshot}
+use Rattle.session_ops.specs.Snapshot.{HasRevisions, IsSnapshot, Snapshot}
 use Rattle.client_sync.specs.Client.{joined_client}
 use Rattle.client_sync.specs.Stands.{HaveServerTexts, Mirrors, pending_in}
 use Rattle.session_ops.specs.Born.{TouchesMadeCells}

@@ -61,7 +61,7 @@ impl Client {
             IsSnapshot (state n0 seen) (length seen) snapshot → TouchesMadeCells (state n0 seen) →
             IfOk result (λ c. Mirrors n0 c (joined_client number seen)) }
     {
-        let Snapshot { book, revs, cursor } = snapshot;
+        let (book, revs, cursor) = snapshot.into_parts();
         keeps_rules(&book);
         Ok(Client {
             alloc,

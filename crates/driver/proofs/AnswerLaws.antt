@@ -1,5 +1,5 @@
 -- From the parts' answers to the program's.
-use Rattle.std.proofs.Common.{◌≡◌, ◌≢◌, ℕ, ◌≤◌, ◌<◌, inl, inr, length, get_or, OnOk, Bool, false, true, List, [], ◌∷◌, map, Option, Some, None, Result, Ok, Err, refl, sym, ap, subst, ◌∙◌, arith}
+use Rattle.std.proofs.Common.{◌≡◌, ◌≢◌, ℕ, ◌≤◌, ◌<◌, inl, inr, length, get_or, OnOk, OnErr, IsErrOf, Bool, false, true, List, [], ◌∷◌, map, Option, Some, None, Result, Ok, Err, refl, sym, ap, subst, ◌∙◌, arith}
 use Rattle.book_outside.specs.Outside.{Rose, GivesFront, with_reading}
 use Rattle.livemd_read.specs.declared.types.Read.{Read}
 use Rattle.livemd_read.specs.declared.types.BookError.{BookError}
@@ -54,7 +54,7 @@ book-ended words a book (BookRefused why) form h e = (record { read = record { b
 book-ended words a book ScriptUnread form h e = absurd h
 book-ended words a book (ScriptRefused why) form h e = absurd h
 book-ended words a book SinkFailed form h e = absurd h
-book-ended words a book OutOfMemory form h e = refl
+book-ended words a book OutOfMemory form h e = (refl, inl (ap (λ o. o.written) e))
 
 -- a book that is refused is not accepted: no status but 2, 3 and 7 can come
 pub refused-not-accepted : (bytes : List ℕ) (why : BookError) → IsBookCause bytes why → why ≢ BookMemory → ¬ IsAccepted bytes
@@ -83,7 +83,7 @@ script-ended words a mid script r ScriptUnread b h e =
 script-ended words a mid script r (ScriptRefused why) b h e =
     (record { read = record { accepted = b.accepted; script = script; form = b.form; bytes = h.bytes; front = h.front }; reads = both-read words a mid script r false b h.reads; cause = h.so.0; named = h.so.1; unwritten = e }, refl)
 script-ended words a mid script r SinkFailed b h e = absurd h
-script-ended words a mid script r OutOfMemory b h e = refl
+script-ended words a mid script r OutOfMemory b h e = (refl, inl (ap (λ o. o.written) e))
 
 -- what was played
 pub play-answered : (words : List (List ℕ)) (a : Around) (mid : Input) (script : List ℕ) (r : Read) (content : Content) (played : Played) → HasReadBook words a.held script r a.shelf_before mid → IsScriptAnswer a.held script mid a.shelf_after (Ok content)
@@ -94,7 +94,10 @@ play-answered words a mid script r content (Done report) b h p =
 play-answered words a mid script r content (PlayCut report) b h p =
     let accepted : ScriptIsAccepted words a.held = record { read = record { accepted = b.accepted; script = script; form = b.form; bytes = h.bytes; front = h.front }; content = content; is = h.so } in
     inl (record { accepted = accepted; reads = both-read words a mid script r false b h.reads; rose = p.rose; told = report; report = refl; cut = rw (b.notices, b.notebook) p.cut })
-play-answered words a mid script r content PlayMemory b h p = refl
+play-answered words a mid script r content PlayMemory b h (inl same) = (refl, inl (ap (λ o. o.written) same))
+play-answered words a mid script r content PlayMemory b h (inr left) =
+    let accepted : ScriptIsAccepted words a.held = record { read = record { accepted = b.accepted; script = script; form = b.form; bytes = h.bytes; front = h.front }; content = content; is = h.so } in
+    (refl, inr (record { accepted = accepted; reads = both-read words a mid script r false b h.reads; left = rw (b.notices, b.notebook) left }))
 
 -- words in no form
 pub words-ended : (words : List (List ℕ)) (a : Around) → ((book script : List ℕ) → ¬ IsPlay words book script) → ((book : List ℕ) → ¬ IsFormat words book) → a.shelf_after ≡ a.shelf_before → a.sink_after ≡ a.sink_before → IsAnswer words a None (Some Usage)
@@ -108,7 +111,7 @@ format-ended a book (BookRefused why) h e = (record { read = record { book = boo
 format-ended a book ScriptUnread h e = absurd h
 format-ended a book (ScriptRefused why) h e = absurd h
 format-ended a book SinkFailed h e = absurd h
-format-ended a book OutOfMemory h e = refl
+format-ended a book OutOfMemory h e = (refl, ap (λ o. o.written) e)
 
 -- a book that was read, and whose tidy form was to be written
 pub format-written : (a : Around) (book : List ℕ) (r : Read) (report : Option Report) (fault : Option RunFault) → IsBookAnswer a.held book a.shelf_before a.shelf_after (Ok r) → report ≡ None → IsWriting r.notebook a.sink_before a.sink_after fault
@@ -120,7 +123,7 @@ format-written a book r report (Some (BookRefused why)) h e x = absurd x
 format-written a book r report (Some ScriptUnread) h e x = absurd x
 format-written a book r report (Some (ScriptRefused why)) h e x = absurd x
 format-written a book r report (Some SinkFailed) h e x = record { accepted = book-accepted (format_words book) a.held book a.shelf_before a.shelf_after r (inr refl) h; form = refl; reads = h.reads; rose = x.0; report = e; written = x.1 }
-format-written a book r report (Some OutOfMemory) h e x = e
+format-written a book r report (Some OutOfMemory) h e x = (e, x)
 
 -- what formatting answers, the program answers to the words
 format-told : (a : Around) (book : List ℕ) (report : Option Report) (fault : Option RunFault) → IsFormatAnswer book a report fault → IsAnswer (format_words book) a report fault
@@ -131,7 +134,7 @@ format-told a book report (Some (BookRefused why)) h = h
 format-told a book report (Some ScriptUnread) h = absurd h
 format-told a book report (Some (ScriptRefused why)) h = absurd h
 format-told a book report (Some SinkFailed) h = inr h
-format-told a book report (Some OutOfMemory) h = h
+format-told a book report (Some OutOfMemory) h = (h.0, inl h.1)
 
 pub format-answered : (words : List (List ℕ)) (a : Around) (book : List ℕ) (report : Option Report) (fault : Option RunFault) → IsFormat words book → IsFormatAnswer book a report fault → IsAnswer words a report fault
 format-answered words a book report fault form h = subst (λ ws. IsAnswer ws a report fault) (sym form) (format-told a book report fault h)
@@ -177,6 +180,10 @@ three f d e k (x ∷ y ∷ z ∷ v ∷ vs) a b = absurd (omega arith)
 pub on-ok : {T E : Type 0} (r : Result T E) {A B : Type 0} → (A → B) → OnOk r A → OnOk r B
 on-ok (Ok v) f a = f a
 on-ok (Err e) f a = tt
+
+pub on-err-of : {T E : Type 0} (r : Result T E) {A : Type 0} {e : E} → IsErrOf r e → OnErr r A → A
+on-err-of (Ok v) e a = absurd (cc e)
+on-err-of (Err x) e a = a
 
 pub on-ok-both : {T E : Type 0} (r : Result T E) {A B C : Type 0} → (A → B → C) → OnOk r A → OnOk r B → OnOk r C
 on-ok-both (Ok v) f a b = f a b

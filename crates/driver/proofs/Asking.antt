@@ -45,7 +45,7 @@ use Rattle.driver.specs.Turns.{Turn, Made, turns_from, AreMarks}
 use Rattle.driver.specs.Player.{Game, Stage, Sent, say, name_of, joined, raw_joined, play_line, send_next, without_front}
 use Rattle.driver.specs.Headline.{AllOfRun, AllAnswered, AllFair, IsFair, IsFollowed, TakeReadyLanes, call_of}
 use Rattle.world.specs.Sound.{AreApart}
-use Rattle.driver.specs.Clients.{AreMirrored}
+use Rattle.driver.specs.Clients.{AreMirrors}
 use Rattle.driver.specs.Standing.{Stands, HasDone, HasPlayed, HasAsked, HasAdmitted, world_of, entries_of, turns_of}
 use Rattle.driver.specs.declared.player.Player.{Player}
 use Rattle.driver.proofs.Marks.{marks-longer, turns-made, run-push, asked-push, helped-push, answered-more, fair-push, same-call}
@@ -236,7 +236,7 @@ none-joined n0 h n (c ∷ cs) a e =
 
 -- one call under 0: the clients that it leaves, the messages that were sent until then, and the lines that it prints
 pub called-done : (g : Game) (act : Stage → Option Stage) (p p' : Player) (s : Stage) (n : ℕ) (op : Op) (answer : Reply) (cs : List Holder) (sent : List Sent) (lines : List (List ℕ)) (before out : List ℕ) → Stands g p s
-    → HasAnswered g.opening 0 (ByClient n op) p.session p'.session answer → p'.marks ≡ p.marks → AreMirrored g.opening p'.clients.items cs → IsWhole (world_of g.opening (entries_of p') cs) → AreHonest (world_of g.opening (entries_of p') cs)
+    → HasAnswered g.opening 0 (ByClient n op) p.session p'.session answer → p'.marks ≡ p.marks → AreMirrors g.opening p'.clients.items cs → IsWhole (world_of g.opening (entries_of p') cs) → AreHonest (world_of g.opening (entries_of p') cs)
     → AreApart (map number_of cs) → AllFair g.opening sent
     → ((rest : List Turn) → act (record s { turns = Made (entries_of p) (entry_of 0 (ByClient n op) answer) ∷ rest }) ≡ Some (say lines (record s { turns = rest; seen = entries_of p ++ entry_of 0 (ByClient n op) answer ∷ []; clients = cs; asked = s.asked ++ ByClient n op ∷ []; sent = sent })))
     → out ≡ before ++ as_text lines → HasDone g act p p' s before out
@@ -289,7 +289,7 @@ join-played g p p' s n x before out st ans em ec mir printed =
     subst (λ y. AreHonest (world_of g.opening (h ++ y ∷ []) (s.clients ++ joined_client n (h ++ y ∷ []) ∷ []))) is (subst (λ a. AreHonest (with_joined (called w (ByClient n Joins)) n a)) right (join-honest w n st.whole st.honest)) in
     let absent : is_in n (map number_of s.clients) ≡ false = none-joined g.opening h n s.clients st.whole.joined (not-joined (state g.opening h) n right) in
     called-done g (play_line g (Join n)) p p' s n Joins Accepted cs s.sent (joined_words (name_of g n) (length (h ++ e ∷ [])) ∷ []) before out st ans em
-    (subst (λ xs. AreMirrored g.opening xs cs) (sym ec) (mirrored-append g.opening p.clients.items s.clients x (joined_client n (h ++ e ∷ [])) st.mirrored (subst (λ y. Mirrors g.opening x (joined_client n y)) ans.history mir)))
+    (subst (λ xs. AreMirrors g.opening xs cs) (sym ec) (mirrored-append g.opening p.clients.items s.clients x (joined_client n (h ++ e ∷ [])) st.mirrored (subst (λ y. Mirrors g.opening x (joined_client n y)) ans.history mir)))
     (subst (λ y. IsWhole (world_of g.opening y cs)) (sym ans.history) whole)
     (subst (λ y. AreHonest (world_of g.opening y cs)) (sym ans.history) honest)
     (subst AreApart (sym (map-append number_of s.clients (joined_client n (h ++ e ∷ []) ∷ []))) (apart-more n (map number_of s.clients) st.apart absent))
@@ -319,14 +319,14 @@ pub join-refused-played : (g : Game) (p p' : Player) (s : Stage) (n : ℕ) (answ
 join-refused-played g p p' s n answer before out st other ans em ec printed =
     let w : World = world_of g.opening (entries_of p) s.clients in
     let grown : entries_of p' ≡ (called w (ByClient n Joins)).history = history-called g p p' s n Joins answer ans in
-    called-done g (play_line g (Join n)) p p' s n Joins answer s.clients s.sent (not_joined_words (name_of g n) answer ∷ []) before out st ans em (subst (λ v. AreMirrored g.opening v.items s.clients) (sym ec) st.mirrored)
+    called-done g (play_line g (Join n)) p p' s n Joins answer s.clients s.sent (not_joined_words (name_of g n) answer ∷ []) before out st ans em (subst (λ v. AreMirrors g.opening v.items s.clients) (sym ec) st.mirrored)
     (subst (λ y. IsWhole (world_of g.opening y s.clients)) (sym grown) (raw-join-whole w n st.whole))
     (subst (λ y. AreHonest (world_of g.opening y s.clients)) (sym grown) (raw-join-honest w n st.whole st.honest))
     st.apart st.fair
     (λ rest. rw (same-call n Joins) (ap Some (joined-else g n (entries_of p ++ entry_of 0 (ByClient n Joins) answer ∷ []) (record s { turns = rest; seen = entries_of p ++ entry_of 0 (ByClient n Joins) answer ∷ []; asked = s.asked ++ ByClient n Joins ∷ [] }) answer other))) printed
 
 -- leave
-pub leave-played : (g : Game) (p p' : Player) (s : Stage) (n : ℕ) (answer : Reply) (before out : List ℕ) → Stands g p s → HasAnswered g.opening 0 (ByClient n Leaves) p.session p'.session answer → p'.marks ≡ p.marks → AreMirrored g.opening p'.clients.items (without_client n s.clients)
+pub leave-played : (g : Game) (p p' : Player) (s : Stage) (n : ℕ) (answer : Reply) (before out : List ℕ) → Stands g p s → HasAnswered g.opening 0 (ByClient n Leaves) p.session p'.session answer → p'.marks ≡ p.marks → AreMirrors g.opening p'.clients.items (without_client n s.clients)
     → out ≡ before ++ as_text (left_words (name_of g n) answer ∷ []) → HasPlayed g (Leave n) p p' s before out
 leave-played g p p' s n answer before out st ans em mir printed =
     let w : World = world_of g.opening (entries_of p) s.clients in
@@ -353,7 +353,7 @@ pub raw-join-played : (g : Game) (p p' : Player) (s : Stage) (n : ℕ) (answer :
 raw-join-played g p p' s n answer lines before out st ans em ec says printed =
     let w : World = world_of g.opening (entries_of p) s.clients in
     let grown : entries_of p' ≡ (called w (ByClient n Joins)).history = history-called g p p' s n Joins answer ans in
-    called-done g (play_line g (RawJoin n)) p p' s n Joins answer s.clients s.sent lines before out st ans em (subst (λ v. AreMirrored g.opening v.items s.clients) (sym ec) st.mirrored)
+    called-done g (play_line g (RawJoin n)) p p' s n Joins answer s.clients s.sent lines before out st ans em (subst (λ v. AreMirrors g.opening v.items s.clients) (sym ec) st.mirrored)
     (subst (λ y. IsWhole (world_of g.opening y s.clients)) (sym grown) (raw-join-whole w n st.whole))
     (subst (λ y. AreHonest (world_of g.opening y s.clients)) (sym grown) (raw-join-honest w n st.whole st.honest))
     st.apart st.fair (λ rest. rw (same-call n Joins) (ap Some (says (record s { turns = rest; seen = entries_of p ++ entry_of 0 (ByClient n Joins) answer ∷ []; asked = s.asked ++ ByClient n Joins ∷ [] })))) printed
@@ -375,14 +375,14 @@ pub raw-played : (g : Game) (p p' : Player) (s : Stage) (n : ℕ) (op : Op) (ans
 raw-played g p p' s n op answer before out st none ans em ec printed =
     let w : World = world_of g.opening (entries_of p) s.clients in
     let grown : entries_of p' ≡ (called w (ByClient n op)).history = history-called g p p' s n op answer ans in
-    called-done g (play_line g (Raw n op)) p p' s n op answer s.clients s.sent (raw_words (name_of g n) answer ∷ []) before out st ans em (subst (λ v. AreMirrored g.opening v.items s.clients) (sym ec) st.mirrored)
+    called-done g (play_line g (Raw n op)) p p' s n op answer s.clients s.sent (raw_words (name_of g n) answer ∷ []) before out st ans em (subst (λ v. AreMirrors g.opening v.items s.clients) (sym ec) st.mirrored)
     (subst (λ y. IsWhole (world_of g.opening y s.clients)) (sym grown) (raw-whole w n op none st.whole))
     (subst (λ y. AreHonest (world_of g.opening y s.clients)) (sym grown) (raw-honest w n op none st.whole st.honest))
     st.apart st.fair (λ rest. rw (none, same-call n op) refl) printed
 
 -- the message at the front of a client's outbox was sent
 pub message-sent : (g : Game) (p q p' : Player) (s : Stage) (n at : ℕ) (c : Holder) (op : Op) (ops : List Op) (name before out : List ℕ) → name ≡ name_of g n → Stands g p s → client_of n s.clients ≡ Some c → c.number ≡ n → c.outbox ≡ op ∷ ops
-    → q.session ≡ p.session → q.marks ≡ p.marks → AreMirrored g.opening q.clients.items (put_client (without_front c ops) s.clients) → HasAsked g.opening (ByClient n op) name q p' before out → HasDone g (send_next g n) p p' s before out
+    → q.session ≡ p.session → q.marks ≡ p.marks → AreMirrors g.opening q.clients.items (put_client (without_front c ops) s.clients) → HasAsked g.opening (ByClient n op) name q p' before out → HasDone g (send_next g n) p p' s before out
 message-sent g p q p' s n at c op ops name before out nm st there number front es em mir asked =
     let h : List Entry = entries_of p in
     let w : World = world_of g.opening h s.clients in
@@ -394,7 +394,7 @@ message-sent g p q p' s n at c op ops name before out nm st there number front e
     let grown : entries_of p' ≡ (called w (ByClient c.number op)).history = history-called g p p' s n op answer ans ∙ ap (λ v. v.history) (sym same) in
     let one : Sent = record { found = h; op = op; reply = answer } in
     let fair : IsFair g.opening one = subst (IsFairAnswer g.opening h op) (ap (λ k. reply (state g.opening h) (ByClient k op)) number ∙ sym ans.right) (front-fair w c op ops front is.0 st.whole) in
-    called-done g (send_next g n) p p' s n op answer cs (s.sent ++ one ∷ []) (sent_words (name_of g n) answer ∷ []) before out st ans (asked.marks ∙ em) (subst (λ v. AreMirrored g.opening v.items cs) (sym asked.clients) mir)
+    called-done g (send_next g n) p p' s n op answer cs (s.sent ++ one ∷ []) (sent_words (name_of g n) answer ∷ []) before out st ans (asked.marks ∙ em) (subst (λ v. AreMirrors g.opening v.items cs) (sym asked.clients) mir)
     (subst (λ y. IsWhole (world_of g.opening y cs)) (sym grown) (take-whole w c (op ∷ ops) (subst HasNoPassage front is.0.no_passage) st.whole (honest-joined g.opening h c is.0) (honest-behind g.opening h c is.0)))
     (subst (λ y. AreHonest (world_of g.opening y cs)) (sym grown) (take-honest w c (op ∷ ops) front st.whole st.honest is.0))
     (subst AreApart (sym (put-numbers (without_front c ops) s.clients)) st.apart) (fair-push g.opening s.sent one st.fair fair)

@@ -25,7 +25,7 @@ use Rattle.driver.specs.Turns.{Turn, Looked, turns_from, AreMarks}
 use Rattle.driver.specs.Player.{Game, Stage, Marked, or_none, looks, say, say_text, states_at, with_clients, name_of, how_many, unseen, receive_some, receive_all, send_each, round, rounds, all_sent}
 use Rattle.driver.specs.Headline.{AllOfRun, AllAnswered, AllFair, TakeReadyLanes, call_of}
 use Rattle.world.specs.Sound.{AreApart}
-use Rattle.driver.specs.Clients.{AreMirrored, IsAt, HasReceived, IsLawful}
+use Rattle.driver.specs.Clients.{AreMirrors, IsAt, HasReceived, IsLawful}
 use Rattle.driver.specs.Standing.{Stands, HasDone, HasPlayed, HasRound, HasReceivedSome, world_of, entries_of, turns_of}
 use Rattle.driver.specs.declared.player.Player.{Player}
 use Rattle.driver.proofs.Marks.{marks-push, turns-looked}
@@ -34,7 +34,7 @@ use Rattle.driver.proofs.Receiving.{many-honest, received-number, each-honest, e
 
 -- the player after a look, with other clients
 pub look-stands : (g : Game) (p p' : Player) (s t : Stage) → Stands g p s → p'.session ≡ p.session → p'.marks ≡ p.marks ++ length (entries_of p) ∷ [] → t.turns ≡ [] → t.seen ≡ entries_of p → t.asked ≡ s.asked → t.helped ≡ s.helped → t.sent ≡ s.sent → IsWhole (world_of g.opening (entries_of p) t.clients) → AreHonest (world_of g.opening (entries_of p) t.clients)
-    → AreApart (map number_of t.clients) → AreMirrored g.opening p'.clients.items t.clients → Stands g p' t
+    → AreApart (map number_of t.clients) → AreMirrors g.opening p'.clients.items t.clients → Stands g p' t
 look-stands g p p' s t st es em used seen asked helped same_sent whole honest apart mir =
     let eh : entries_of p' ≡ entries_of p = ap history_of es in
     record {
@@ -79,7 +79,7 @@ recv-played g p p' s n count at x' name before out nm st is es em ec rec =
       acts = λ rest. rw is.there refl;
       stands =
           look-stands g p p' s t st es em refl refl refl refl refl (put-whole w c st.whole (honest-joined g.opening h c now) (now.later, now.behind)) (put-honest w c st.honest now) (subst AreApart (sym (put-numbers c s.clients)) st.apart)
-          (subst (λ xs. AreMirrored g.opening xs (put_client c s.clients)) (sym ec) (is.replaced x' c number rec.mirrors));
+          (subst (λ xs. AreMirrors g.opening xs (put_client c s.clients)) (sym ec) (is.replaced x' c number rec.mirrors));
       piece = as_text (received_words (name_of g n) (length c.seen) ∷ []);
       printed = rec.printed ∙ ap (λ z. before ++ as_text (received_words z (length c.seen) ∷ [])) nm;
       said = refl;
@@ -96,7 +96,7 @@ cells-played g p p' s before out st es em ec printed =
       more = Looked h ∷ [];
       grown = look-turns p p' es em;
       acts = λ rest. refl;
-      stands = look-stands g p p' s t st es em refl refl refl refl refl st.whole st.honest st.apart (subst (λ v. AreMirrored g.opening v.items s.clients) (sym ec) st.mirrored);
+      stands = look-stands g p p' s t st es em refl refl refl refl refl st.whole st.honest st.apart (subst (λ v. AreMirrors g.opening v.items s.clients) (sym ec) st.mirrored);
       piece = as_text (states_at (state g.opening h));
       printed = printed;
       said = refl;
@@ -114,7 +114,7 @@ book-played g p p' s before out st es em ec printed =
       more = Looked h ∷ [];
       grown = look-turns p p' es em;
       acts = λ rest. refl;
-      stands = look-stands g p p' s t st es em refl refl refl refl refl st.whole st.honest st.apart (subst (λ v. AreMirrored g.opening v.items s.clients) (sym ec) st.mirrored);
+      stands = look-stands g p p' s t st es em refl refl refl refl refl st.whole st.honest st.apart (subst (λ v. AreMirrors g.opening v.items s.clients) (sym ec) st.mirrored);
       piece = text;
       printed = printed;
       said = refl;
@@ -144,7 +144,7 @@ round-acts g s ns t all more rest h k en ek split sends =
 
 -- a round
 pub round-played : (g : Game) (p a c : Player) (s : Stage) (ns : List ℕ) (at : ℕ) (x y : List ℕ) → ns ≡ map number_of s.clients → (d : HasDone g (send_each g ns) p a s x y) → at ≡ length (entries_of a) → c.session ≡ a.session → c.marks ≡ a.marks ++ at ∷ []
-    → AreMirrored g.opening c.clients.items (receive_all g (entries_of a) d.stage.clients) → HasRound g p c s at x y
+    → AreMirrors g.opening c.clients.items (receive_all g (entries_of a) d.stage.clients) → HasRound g p c s at x y
 round-played g p a c s ns at x y en d ea es em mir =
     let h : List Entry = entries_of a in
     let eh : entries_of c ≡ h = ap history_of es in
@@ -250,16 +250,16 @@ sync-played g a b c s at x y z out i r sent printed =
     }
 
 -- whether all was sent, of the clients in memory and of those that they stand for
-pub sent-known : (g : Game) (p : Player) (s : Stage) (xs : List Client) (b : Bool) → Stands g p s → xs ≡ p.clients.items → ((cs : List Holder) → AreMirrored g.opening xs cs → b ≡ all_sent cs) → all_sent s.clients ≡ b
-sent-known g p s xs b st e f = sym (f s.clients (subst (λ ys. AreMirrored g.opening ys s.clients) (sym e) st.mirrored))
+pub sent-known : (g : Game) (p : Player) (s : Stage) (xs : List Client) (b : Bool) → Stands g p s → xs ≡ p.clients.items → ((cs : List Holder) → AreMirrors g.opening xs cs → b ≡ all_sent cs) → all_sent s.clients ≡ b
+sent-known g p s xs b st e f = sym (f s.clients (subst (λ ys. AreMirrors g.opening ys s.clients) (sym e) st.mirrored))
 
 -- the same, as it is made in memory
 pub round-made : (g : Game) (p a b c : Player) (s : Stage) (ns : List ℕ) (at : ℕ) (h : List Entry) (xs ys : List Client) (x y : List ℕ) → ns ≡ map number_of s.clients → (d : HasDone g (send_each g ns) p a s x y) → at ≡ length (entries_of a) → b ≡ record a { marks = a.marks ++ at ∷ [] } → h ≡ history_of b.session → xs ≡ b.clients.items
-    → c.session ≡ b.session → c.marks ≡ b.marks → c.clients.items ≡ ys → ((cs : List Holder) → IsLawful g.opening h → AllByRecursion (IsHonest g.opening h) cs → AreMirrored g.opening xs cs → AreMirrored g.opening ys (receive_all g h cs)) → HasRound g p c s at x y
+    → c.session ≡ b.session → c.marks ≡ b.marks → c.clients.items ≡ ys → ((cs : List Holder) → IsLawful g.opening h → AllByRecursion (IsHonest g.opening h) cs → AreMirrors g.opening xs cs → AreMirrors g.opening ys (receive_all g h cs)) → HasRound g p c s at x y
 round-made g p a b c s ns at h xs ys x y en d ea eb eh ex es em ec f =
     let same : h ≡ entries_of a = eh ∙ ap (λ q. history_of q.session) eb in
     let clients : xs ≡ a.clients.items = ex ∙ ap (λ q. q.clients.items) eb in
     let cs : List Holder = d.stage.clients in
-    let got : AreMirrored g.opening ys (receive_all g h cs) =
-    f cs (subst (IsLawful g.opening) (sym same) (record { notebook = d.stands.whole.notebook; legal = d.stands.whole.legal })) (subst (λ k. AllByRecursion (IsHonest g.opening k) cs) (sym same) d.stands.honest) (subst (λ zs. AreMirrored g.opening zs cs) (sym clients) d.stands.mirrored) in
-    round-played g p a c s ns at x y en d ea (es ∙ ap (λ q. q.session) eb) (em ∙ ap (λ q. q.marks) eb) (subst (λ zs. AreMirrored g.opening zs (receive_all g (entries_of a) cs)) (sym ec) (subst (λ k. AreMirrored g.opening ys (receive_all g k cs)) same got))
+    let got : AreMirrors g.opening ys (receive_all g h cs) =
+    f cs (subst (IsLawful g.opening) (sym same) (record { notebook = d.stands.whole.notebook; legal = d.stands.whole.legal })) (subst (λ k. AllByRecursion (IsHonest g.opening k) cs) (sym same) d.stands.honest) (subst (λ zs. AreMirrors g.opening zs cs) (sym clients) d.stands.mirrored) in
+    round-played g p a c s ns at x y en d ea (es ∙ ap (λ q. q.session) eb) (em ∙ ap (λ q. q.marks) eb) (subst (λ zs. AreMirrors g.opening zs (receive_all g (entries_of a) cs)) (sym ec) (subst (λ k. AreMirrors g.opening ys (receive_all g k cs)) same got))

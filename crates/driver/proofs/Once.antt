@@ -21,7 +21,8 @@ use Rattle.notebook.specs.Rules.{IsNotebook}
 use Rattle.notebook.proofs.Sources.{found-resourced}
 use Rattle.notebook.proofs.Living.{change-found}
 use Rattle.session_ops.specs.declared.entry.Entry.{Entry}
-use Rattle.session_ops.specs.State.{State, Taken, Began, taken_by, first_source, beginnings, beginnings_of, begins_now, moved_source, once_made, state, revision, Legal}
+use Rattle.session_ops.specs.Deeds.{moved_source}
+use Rattle.session_ops.specs.State.{State, Taken, Began, taken_by, first_source, beginnings, beginnings_of, begins_now, once_made, state, revision, Legal}
 use Rattle.session_ops.proofs.Live.{found-number}
 use Rattle.session_ops.specs.Orderly.{IsOrderly, IsBeganBelow, has_begun}
 use Rattle.session_ops.proofs.Orderly.{orderly-kept, opening-orderly}

@@ -10,9 +10,9 @@ use Rattle.client_sync.specs.Stands.{Mirrors, number_in}
 use Rattle.client_sync.specs.declared.client.Client.{Client}
 use Rattle.world.specs.Claims.{number_of}
 use Rattle.world.specs.Sound.{AreApart}
-use Rattle.driver.specs.Clients.{AreMirrored, IsAt, IsPlace, later, place_in}
+use Rattle.driver.specs.Clients.{AreMirrors, IsAt, IsPlace, later, place_in}
 
-pub mirrored-append : (n0 : Parts) (xs : List Client) (cs : List Holder) (x : Client) (c : Holder) → AreMirrored n0 xs cs → Mirrors n0 x c → AreMirrored n0 (xs ++ x ∷ []) (cs ++ c ∷ [])
+pub mirrored-append : (n0 : Parts) (xs : List Client) (cs : List Holder) (x : Client) (c : Holder) → AreMirrors n0 xs cs → Mirrors n0 x c → AreMirrors n0 (xs ++ x ∷ []) (cs ++ c ∷ [])
 mirrored-append n0 [] [] x c m y = (y, tt)
 mirrored-append n0 [] (d ∷ cs) x c m y = absurd m
 mirrored-append n0 (z ∷ xs) [] x c m y = absurd m
@@ -41,7 +41,7 @@ absent-out n (d ∷ cs) a =
     a
 
 -- the first client has the number
-at-first : (n0 : Parts) (x : Client) (xs : List Client) (c : Holder) (cs : List Holder) (n : ℕ) → Mirrors n0 x c → AreMirrored n0 xs cs → is_in c.number (map number_of cs) ≡ false → c.number ≡ n → IsAt n0 (x ∷ xs) (c ∷ cs) n 0
+at-first : (n0 : Parts) (x : Client) (xs : List Client) (c : Holder) (cs : List Holder) (n : ℕ) → Mirrors n0 x c → AreMirrors n0 xs cs → is_in c.number (map number_of cs) ≡ false → c.number ≡ n → IsAt n0 (x ∷ xs) (c ∷ cs) n 0
 at-first n0 x xs c cs n m all a e =
     record {
       own = c;
@@ -54,12 +54,12 @@ at-first n0 x xs c cs n m all a e =
           let here : (c.number == d.number) ≡ true = eq-eqb c.number d.number (e ∙ sym number) in
           let rest : put_client d cs ≡ cs = absent-put n d cs number (subst (λ k. is_in k (map number_of cs) ≡ false) e a) in (
             subst (Mirrors n0 y) (sym (ap (λ b. if b then d else c) here)) h,
-            subst (AreMirrored n0 xs) (sym rest) all,
+            subst (AreMirrors n0 xs) (sym rest) all,
           );
       removed =
           let here : (c.number == n) ≡ true = eq-eqb c.number n e in
           let rest : without_client n cs ≡ cs = absent-out n cs (subst (λ k. is_in k (map number_of cs) ≡ false) e a) in
-          subst (AreMirrored n0 xs) (sym (ap (λ b. if b then without_client n cs else c ∷ without_client n cs) here ∙ rest)) all;
+          subst (AreMirrors n0 xs) (sym (ap (λ b. if b then without_client n cs else c ∷ without_client n cs) here ∙ rest)) all;
     }
 
 -- another has it, after the first
@@ -75,11 +75,11 @@ at-later n0 x xs c cs n at m e is =
       replaced = λ y d number h.
           let other : (c.number == d.number) ≡ false = ap (λ k. c.number == k) number ∙ e in
           (subst (Mirrors n0 x) (sym (ap (λ b. if b then d else c) other)) m, is.replaced y d number h);
-      removed = subst (AreMirrored n0 (x ∷ remove xs at)) (sym (ap (λ b. if b then without_client n cs else c ∷ without_client n cs) e)) (m, is.removed);
+      removed = subst (AreMirrors n0 (x ∷ remove xs at)) (sym (ap (λ b. if b then without_client n cs else c ∷ without_client n cs) e)) (m, is.removed);
     }
 
 -- the numbers in memory
-pub mirrored-numbers : (n0 : Parts) (xs : List Client) (cs : List Holder) → AreMirrored n0 xs cs → map number_in xs ≡ map number_of cs
+pub mirrored-numbers : (n0 : Parts) (xs : List Client) (cs : List Holder) → AreMirrors n0 xs cs → map number_in xs ≡ map number_of cs
 mirrored-numbers n0 [] [] m = refl
 mirrored-numbers n0 [] (c ∷ cs) m = absurd m
 mirrored-numbers n0 (x ∷ xs) [] m = absurd m
@@ -90,7 +90,7 @@ place-later n0 x xs c cs n None m e is = ap (λ b. if b then Some c else client_
 place-later n0 x xs c cs n (Some at) m e is = let one : 1 + at ≡ suc at = omega arith in subst (IsAt n0 (x ∷ xs) (c ∷ cs) n) (sym one) (at-later n0 x xs c cs n at m e is)
 
 -- the first place of a number is that of its client
-place-of-numbers : (n0 : Parts) (xs : List Client) (cs : List Holder) (n : ℕ) → AreMirrored n0 xs cs → AreApart (map number_of cs) → IsPlace n0 xs cs n (place_in n (map number_of cs))
+place-of-numbers : (n0 : Parts) (xs : List Client) (cs : List Holder) (n : ℕ) → AreMirrors n0 xs cs → AreApart (map number_of cs) → IsPlace n0 xs cs n (place_in n (map number_of cs))
 place-of-numbers n0 [] [] n m a = refl
 place-of-numbers n0 [] (c ∷ cs) n m a = absurd m
 place-of-numbers n0 (x ∷ xs) [] n m a = absurd m
@@ -102,7 +102,7 @@ place-of-numbers n0 (x ∷ xs) (c ∷ cs) n m a =
     ]
     refl
 
-pub placed : (n0 : Parts) (xs : List Client) (cs : List Holder) (n : ℕ) (o : Option ℕ) → AreMirrored n0 xs cs → AreApart (map number_of cs) → o ≡ place_in n (map number_in xs) → IsPlace n0 xs cs n o
+pub placed : (n0 : Parts) (xs : List Client) (cs : List Holder) (n : ℕ) (o : Option ℕ) → AreMirrors n0 xs cs → AreApart (map number_of cs) → o ≡ place_in n (map number_in xs) → IsPlace n0 xs cs n o
 placed n0 xs cs n o m a e = subst (IsPlace n0 xs cs n) (sym (e ∙ ap (place_in n) (mirrored-numbers n0 xs cs m))) (place-of-numbers n0 xs cs n m a)
 
 within-of : (m : ℕ) (ms : List ℕ) (b : Bool) (o : Option ℕ) (at : ℕ) → ((k : ℕ) → Some k ≡ o → k < length ms) → Some at ≡ (if b then Some 0 else later 1 o) → at < length (m ∷ ms)
@@ -127,8 +127,8 @@ absent-here n (d ∷ cs) e =
     [ true ↦ λ k. absurd (cc k) | false ↦ λ k. absent-here n cs k ]
     e
 
-pub mirrored-without : (n0 : Parts) (xs : List Client) (cs : List Holder) (n : ℕ) → AreMirrored n0 xs cs → client_of n cs ≡ None → AreMirrored n0 xs (without_client n cs)
-mirrored-without n0 xs cs n m e = subst (AreMirrored n0 xs) (sym (absent-out n cs (absent-here n cs e))) m
+pub mirrored-without : (n0 : Parts) (xs : List Client) (cs : List Holder) (n : ℕ) → AreMirrors n0 xs cs → client_of n cs ≡ None → AreMirrors n0 xs (without_client n cs)
+mirrored-without n0 xs cs n m e = subst (AreMirrors n0 xs) (sym (absent-out n cs (absent-here n cs e))) m
 
 -- who is gone leaves the others apart
 out-stays : (m n : ℕ) (cs : List Holder) → is_in m (map number_of cs) ≡ false → is_in m (map number_of (without_client n cs)) ≡ false

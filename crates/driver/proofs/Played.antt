@@ -8,8 +8,7 @@ use Rattle.notebook.specs.declared.parts.Parts.{Parts}
 use Rattle.session_ops.specs.declared.entry.Entry.{Entry}
 use Rattle.notebook.specs.Rules.{IsNotebook}
 use Rattle.session_ops.specs.State.{State, state, revision, entries_by}
-use Rattle.session_ops.specs.Snapshot.{IsSnapshot}
-use Rattle.session_ops.specs.declared.snapshot.Snapshot.{Snapshot}
+use Rattle.session_ops.specs.Snapshot.{IsSnapshot, Snapshot}
 use Rattle.session_ops.proofs.Growing.{state-append}
 use Rattle.session_ops.proofs.Settled.{nothing-changed}
 use Rattle.session_core.specs.Session.{IsSession, entry_of}
@@ -27,10 +26,10 @@ use Rattle.driver.specs.Around.{Output, write_of, writes_of, AreWritten, AreCut}
 use Rattle.driver.specs.Player.{Game, Stage, Printed, or_none, say, unsaid, with_piece, play, play_line, settled, states_at}
 use Rattle.driver.specs.Transcript.{game, begun, printed_by, ended, finished, pieces_of, ending, end_lines}
 use Rattle.driver.specs.Headline.{AllOfRun, AllAnswered, AllClients, AllFair, TakeReadyLanes, LeaveStates, IsHistory, IsActual, IsPlayed, IsBrokenOff, IsCut, call_of}
-use Rattle.driver.specs.Clients.{AreMirrored}
+use Rattle.driver.specs.Clients.{AreMirrors}
 use Rattle.driver.specs.Standing.{Stands, HasPlayed, entries_of, turns_of}
-use Rattle.driver.specs.Ends.{IsFresh, HasEnded, EndsWritten, EndsCut, IsPlayedAfter, IsCutAfter, IsPlayedOut}
-use Rattle.driver.specs.Playing.{ArePlayed, HavePlayed, HaveBrokenOff}
+use Rattle.driver.specs.Ends.{IsFresh, HasEnded, EndsWritten, EndsCut, EndsLeft, IsPlayedAfter, IsCutAfter, IsLeftAfter, IsLeftOf, IsLeftSo, IsPlayedOut}
+use Rattle.driver.specs.Playing.{ArePlayed, HavePlayed, HaveBrokenOff, HaveStopped}
 use Rattle.driver.specs.declared.player.Player.{Player}
 use Rattle.driver.proofs.Once.{all-grown}
 use Rattle.world.proofs.Fronts.{fronts-show}
@@ -66,6 +65,15 @@ bytes-front None w1 w2 xs ys h k = tt
 bytes-front (Some w) w1 w2 xs ys h k =
     let f : AppendsFront (Some (w ++ xs)) ys w2 = subst (λ o. AppendsFront o ys w2) h k in
     record { part = xs ++ f.part; rest = f.rest; parts = ap (λ z. xs ++ z) f.parts ∙ sym (append_assoc xs f.part f.rest); appended = f.appended ∙ ap Some (append_assoc w xs f.part) }
+
+-- a front of a text: all of it, and nothing
+front-all : (w0 w1 : Option (List ℕ)) (bytes : List ℕ) → AppendsAll w0 bytes w1 → AppendsFront w0 bytes w1
+front-all None w1 bytes h = tt
+front-all (Some w) w1 bytes h = record { part = bytes; rest = []; parts = sym (append-nil bytes); appended = h }
+
+pub front-none : (w0 w1 : Option (List ℕ)) (bytes : List ℕ) → w1 ≡ w0 → AppendsFront w0 bytes w1
+front-none None w1 bytes e = tt
+front-none (Some w) w1 bytes e = record { part = []; rest = bytes; parts = refl; appended = e ∙ ap Some (sym (append-nil w)) }
 
 -- written pieces
 pub written-none : (a : Output) → AreWritten [] a a
@@ -193,6 +201,17 @@ have-failed g lines i l p0 p1 p2 s a b c bytes lt is x f w =
       written = written-front a b c x.pieces (bytes ∷ []) x.written w;
     }
 
+-- the first lines were played, and all that they print was written
+written-all : (pieces : List (List ℕ)) (a b : Output) → AreWritten pieces a b → AreCut pieces a b
+written-all pieces a b w = record { front = front-all a.written b.written (concat pieces) w.appended; asked = w.asked }
+
+have-broken : (g : Game) (lines first others : List ScriptLine) (p0 p1 : Player) (s : Stage) (a b : Output) → lines ≡ first ++ others → HavePlayed g first p0 p1 s a b → HaveBrokenOff g lines p0 p1 s a b
+have-broken g lines first others p0 p1 s a b parts x = record { first = first; others = others; parts = parts; pieces = x.pieces; played = x.played; written = written-all x.pieces a b x.written }
+
+-- a line found no memory, before anything of it was written
+pub have-stopped : (g : Game) (lines : List ScriptLine) (i : ℕ) (p0 p1 : Player) (s : Stage) (a b : Output) → HavePlayed g (take i lines) p0 p1 s a b → HaveStopped g lines p0 s a b
+have-stopped g lines i p0 p1 s a b x = record { last = p1; broken = have-broken g lines (take i lines) (drop i lines) p0 p1 s a b (sym (take-append-drop i lines)) x }
+
 -- a history that was played
 pub history-of : (g : Game) (p : Player) (s : Stage) → Stands g p s → IsHistory g.opening 0 (entries_of p) p.marks
 history-of g p s st = record { legal = st.session.legal; marked = st.marks; others = st.run; answered = st.answered; ready = st.ready }
@@ -228,7 +247,7 @@ first-stands n0 names p fr =
       whole = record { legal = fr.session.legal; notebook = fr.session.opening; joined = tt; behind = tt };
       honest = tt;
       apart = tt;
-      mirrored = subst (λ xs. AreMirrored n0 xs []) (sym fr.clients) tt;
+      mirrored = subst (λ xs. AreMirrors n0 xs []) (sym fr.clients) tt;
     }
 
 no-turns : (n0 : Parts) (p : Player) → IsFresh n0 p → turns_of p ≡ []
@@ -293,6 +312,13 @@ run-first n0 notices content first others p0 p1 pieces fr parts l =
 lines-cut : (n0 : Parts) (content : Content) (p0 p1 : Player) (a b : Output) → IsFresh n0 p0 → HaveBrokenOff (game n0 content) content.lines p0 p1 (begun [] []) a b → IsCutAfter n0 content (entries_of p1) p1.marks a b
 lines-cut n0 content p0 p1 a b fr x = record { pieces = x.pieces; run = λ notices. inr (run-first n0 notices content x.first x.others p0 p1 x.pieces fr x.parts x.played); written = x.written }
 
+-- all lines were played, and there was no memory for the end: no write was asked for, or nothing of it was written
+all-left : (n0 : Parts) (content : Content) (p0 p1 p2 : Player) (a b c : Output) → IsFresh n0 p0 → HavePlayed (game n0 content) content.lines p0 p1 (begun [] []) a b → EndsLeft n0 p1 p2 b c → IsLeftAfter n0 content a c
+all-left n0 content p0 p1 p2 a b c fr x (inl same) =
+    let broken : HaveBrokenOff (game n0 content) content.lines p0 p1 (begun [] []) a b = have-broken (game n0 content) content.lines content.lines [] p0 p1 (begun [] []) a b (sym (append-nil content.lines)) x in
+    record { history = entries_of p1; marks = p1.marks; cut = subst (λ o. IsCutAfter n0 content (entries_of p1) p1.marks a o) (sym same) (lines-cut n0 content p0 p1 a b fr broken) }
+all-left n0 content p0 p1 p2 a b c fr x (inr ends) = record { history = entries_of p2; marks = p2.marks; cut = all-cut n0 content p0 p1 p2 a b c fr x ends }
+
 -- what a session prints of itself at the end
 pub end-printed : (n0 : Parts) (p : Player) (x : Snapshot) (a b c : List ℕ) → IsSnapshot (state n0 (entries_of p)) (length (entries_of p)) x → a ≡ as_text (codes "end" ∷ []) → b ≡ a ++ as_text (book_lines (rev_in x.revs) x.book) → c ≡ b ++ as_text (states_at (state n0 (entries_of p))) → c ≡ as_text (end_lines (state n0 (entries_of p)))
 end-printed n0 p x a b c is ea eb ec =
@@ -316,12 +342,22 @@ noticed-all n0 notices content p a b c w x = record { pieces = as_text notices �
 pub noticed-cut : (n0 : Parts) (notices : List (List ℕ)) (content : Content) (p : Player) (a b c : Output) → AreWritten (as_text notices ∷ []) a b → IsCutAfter n0 content (entries_of p) p.marks b c → IsCut n0 notices content 0 (entries_of p) p.marks a c
 noticed-cut n0 notices content p a b c w x = record { pieces = as_text notices ∷ x.pieces; run = x.run notices; written = written-front a b c (as_text notices ∷ []) x.pieces w x.written }
 
+-- the notices were written, and then what there was memory for
+pub noticed-left : (n0 : Parts) (notices : List (List ℕ)) (content : Content) (a b c : Output) → AreWritten (as_text notices ∷ []) a b → IsLeftAfter n0 content b c → IsLeftSo n0 notices content a c
+noticed-left n0 notices content a b c w x =
+    inr (record { history = x.history; marks = x.marks; cut = record { pieces = as_text notices ∷ x.cut.pieces; run = x.cut.run notices; written = written-front a b c (as_text notices ∷ []) x.cut.pieces w x.cut.written } })
+
 -- just a front of the notices was written, and nothing was played
 pub notices-cut : (n0 : Parts) (notices : List (List ℕ)) (content : Content) (p : Player) (a b : Output) → IsFresh n0 p → AreCut (as_text notices ∷ []) a b → IsCut n0 notices content 0 (entries_of p) p.marks a b
 notices-cut n0 notices content p a b fr w =
     let st : Stands (game n0 content) p (begun [] []) = first-stands n0 content.names p fr in
     let broken : IsBrokenOff n0 notices content 0 (entries_of p) p.marks (as_text notices ∷ []) = run-first n0 notices content [] content.lines p p [] fr refl (played-none (game n0 content) p (begun [] []) st) in
     record { pieces = as_text notices ∷ []; run = inr broken; written = w }
+
+-- there was no memory for the notices: no write was asked for, or nothing of them was written
+pub notices-left : (n0 : Parts) (notices : List (List ℕ)) (content : Content) (p : Player) (a b : Output) → IsFresh n0 p → IsLeftOf (as_text notices) a b → IsLeftSo n0 notices content a b
+notices-left n0 notices content p a b fr (inl same) = inl same
+notices-left n0 notices content p a b fr (inr w) = inr (record { history = entries_of p; marks = p.marks; cut = notices-cut n0 notices content p a b fr w })
 
 -- what playing the lines gives, by their names and themselves
 abbrev pub LinesPlayed : Player → Player → Output → Output → List (List ℕ) → List ScriptLine → Type 0
@@ -355,3 +391,18 @@ pub fresh-failed : (n0 : Parts) (content : Content) (p0 p1 : Player) (a b : Outp
 fresh-failed n0 content p0 p1 a b names lines fr en el f =
     let f' : LinesFailed p0 p1 a b content.names content.lines = subst (λ ns. LinesFailed p0 p1 a b ns content.lines) en (subst (λ ls. LinesFailed p0 p1 a b names ls) el f) in
     lines-cut n0 content p0 p1 a b fr (f' n0 (begun [] []) (first-stands n0 content.names p0 fr))
+
+-- a line found no memory
+abbrev pub LinesStopped : Player → Output → Output → List (List ℕ) → List ScriptLine → Type 0
+LinesStopped p0 a b names lines = (n0 : Parts) → (s : Stage) → Stands (record { opening = n0; names = names }) p0 s → HaveStopped (record { opening = n0; names = names }) lines p0 s a b
+
+pub fresh-stopped : (n0 : Parts) (content : Content) (p0 : Player) (a b : Output) (names : List (List ℕ)) (lines : List ScriptLine) → IsFresh n0 p0 → names ≡ content.names → lines ≡ content.lines → LinesStopped p0 a b names lines → IsLeftAfter n0 content a b
+fresh-stopped n0 content p0 a b names lines fr en el f =
+    let f' : LinesStopped p0 a b content.names content.lines = subst (λ ns. LinesStopped p0 a b ns content.lines) en (subst (λ ls. LinesStopped p0 a b names ls) el f) in
+    let x = f' n0 (begun [] []) (first-stands n0 content.names p0 fr) in
+    record { history = entries_of x.last; marks = x.last.marks; cut = lines-cut n0 content p0 x.last a b fr x.broken }
+
+-- the end found no memory
+pub fresh-left : (n0 : Parts) (content : Content) (p0 p1 p2 : Player) (a b c : Output) (names : List (List ℕ)) (lines : List ScriptLine) → IsFresh n0 p0 → names ≡ content.names → lines ≡ content.lines → LinesPlayed p0 p1 a b names lines → EndsLeft n0 p1 p2 b c
+    → IsLeftAfter n0 content a c
+fresh-left n0 content p0 p1 p2 a b c names lines fr en el f ends = all-left n0 content p0 p1 p2 a b c fr (fresh-lines n0 content p0 p1 a b names lines fr en el f) ends

@@ -16,7 +16,7 @@ use Rattle.world.proofs.Standing.{rest-after}
 use Rattle.world.proofs.Honest.{entry-honest, honest-joined}
 use Rattle.world.proofs.Next.{next-entry}
 use Rattle.driver.specs.Player.{Game, unseen, receive_all, all_sent}
-use Rattle.driver.specs.Clients.{AreMirrored, HasReceived, IsLawful}
+use Rattle.driver.specs.Clients.{AreMirrors, HasReceived, IsLawful}
 use Rattle.driver.specs.Standing.{world_of}
 
 -- what a client has not received is what comes later
@@ -159,7 +159,7 @@ first_received zero g h cs = cs
 first_received (suc i) g h [] = []
 first_received (suc i) g h (c ∷ cs) = received g.opening c (unseen c h) ∷ first_received i g h cs
 
-pub first-all : (g : Game) (h : List Entry) (xs : List Client) (cs : List Holder) (i : ℕ) → AreMirrored g.opening xs (first_received i g h cs) → length xs ≤ i → AreMirrored g.opening xs (receive_all g h cs)
+pub first-all : (g : Game) (h : List Entry) (xs : List Client) (cs : List Holder) (i : ℕ) → AreMirrors g.opening xs (first_received i g h cs) → length xs ≤ i → AreMirrors g.opening xs (receive_all g h cs)
 first-all g h [] [] zero m le = tt
 first-all g h [] (c ∷ cs) zero m le = absurd m
 first-all g h (x ∷ xs) cs zero m le = absurd (omega (arith, le))
@@ -173,12 +173,12 @@ pub record IsNextOf (g : Game) (h : List Entry) (xs : List Client) (cs : List Ho
   pub own : Holder
   pub honest : IsHonest g.opening h own
   pub mirrors : (x : Client) → x ≡ get_or xs i x → Mirrors g.opening x own
-  pub put : (y : Client) → Mirrors g.opening y (received g.opening own (unseen own h)) → AreMirrored g.opening (slice_set xs i y) (first_received (suc i) g h cs)
+  pub put : (y : Client) → Mirrors g.opening y (received g.opening own (unseen own h)) → AreMirrors g.opening (slice_set xs i y) (first_received (suc i) g h cs)
 
 next-later : (g : Game) (h : List Entry) (x : Client) (xs : List Client) (c : Holder) (cs : List Holder) (i : ℕ) → Mirrors g.opening x (received g.opening c (unseen c h)) → IsNextOf g h xs cs i → IsNextOf g h (x ∷ xs) (c ∷ cs) (suc i)
 next-later g h x xs c cs i m n = record { own = n.own; honest = n.honest; mirrors = λ y e. n.mirrors y e; put = λ y e. (m, n.put y e) }
 
-pub next-of : (g : Game) (h : List Entry) (xs : List Client) (cs : List Holder) (i : ℕ) → i < length xs → AllByRecursion (IsHonest g.opening h) cs → AreMirrored g.opening xs (first_received i g h cs) → IsNextOf g h xs cs i
+pub next-of : (g : Game) (h : List Entry) (xs : List Client) (cs : List Holder) (i : ℕ) → i < length xs → AllByRecursion (IsHonest g.opening h) cs → AreMirrors g.opening xs (first_received i g h cs) → IsNextOf g h xs cs i
 next-of g h [] cs i lt all m = absurd (omega (arith, lt))
 next-of g h (x ∷ xs) [] zero lt all m = absurd m
 next-of g h (x ∷ xs) (c ∷ cs) zero lt all m = record { own = c; honest = all.0; mirrors = λ y e. subst (λ z. Mirrors g.opening z c) (sym e) m.0; put = λ y e. (e, m.1) }
@@ -189,8 +189,8 @@ next-of g h (x ∷ xs) (c ∷ cs) (suc i) lt all m = next-later g h x xs c cs i 
 pub received-all : (g : Game) (h : List Entry) (m : Holder) (x : Client) → HasReceived g.opening h (length h) m x → Mirrors g.opening x (received g.opening m (unseen m h))
 received-all g h m x is = subst (λ es. Mirrors g.opening x (received g.opening m es)) (all-many h m) is
 
-pub put-next : (g : Game) (h : List Entry) (xs : List Client) (cs : List Holder) (i : ℕ) (y : Client) → (n : IsNextOf g h xs cs i) → Mirrors g.opening y (received g.opening n.own (unseen n.own h)) → AreMirrored g.opening (slice_set xs i y) (first_received (i + 1) g h cs)
-put-next g h xs cs i y n m = let one : suc i ≡ i + 1 = omega arith in subst (λ k. AreMirrored g.opening (slice_set xs i y) (first_received k g h cs)) one (n.put y m)
+pub put-next : (g : Game) (h : List Entry) (xs : List Client) (cs : List Holder) (i : ℕ) (y : Client) → (n : IsNextOf g h xs cs i) → Mirrors g.opening y (received g.opening n.own (unseen n.own h)) → AreMirrors g.opening (slice_set xs i y) (first_received (i + 1) g h cs)
+put-next g h xs cs i y n m = let one : suc i ≡ i + 1 = omega arith in subst (λ k. AreMirrors g.opening (slice_set xs i y) (first_received k g h cs)) one (n.put y m)
 
 -- a client at a place, and the one that it stands for
 pub record HasOwnAt (n0 : Parts) (xs : List Client) (cs : List Holder) (i : ℕ) : Type 0 where
@@ -201,13 +201,13 @@ pub record HasOwnAt (n0 : Parts) (xs : List Client) (cs : List Holder) (i : ℕ)
 own-later : (n0 : Parts) (x : Client) (xs : List Client) (c : Holder) (cs : List Holder) (i : ℕ) → HasOwnAt n0 xs cs i → HasOwnAt n0 (x ∷ xs) (c ∷ cs) (suc i)
 own-later n0 x xs c cs i o = record { own = o.own; front = o.front; mirrors = λ y e. o.mirrors y e }
 
-pub own-at : (n0 : Parts) (xs : List Client) (cs : List Holder) (i : ℕ) → i < length xs → AreMirrored n0 xs cs → HasOwnAt n0 xs cs i
+pub own-at : (n0 : Parts) (xs : List Client) (cs : List Holder) (i : ℕ) → i < length xs → AreMirrors n0 xs cs → HasOwnAt n0 xs cs i
 own-at n0 [] cs i lt m = absurd (omega (arith, lt))
 own-at n0 (x ∷ xs) [] i lt m = absurd m
 own-at n0 (x ∷ xs) (c ∷ cs) zero lt m = record { own = c; front = refl; mirrors = λ y e. subst (λ z. Mirrors n0 z c) (sym e) m.0 }
 own-at n0 (x ∷ xs) (c ∷ cs) (suc i) lt m = own-later n0 x xs c cs i (own-at n0 xs cs i (omega (arith, lt)) m.1)
 
-pub mirrored-length : (n0 : Parts) (xs : List Client) (cs : List Holder) → AreMirrored n0 xs cs → length xs ≡ length cs
+pub mirrored-length : (n0 : Parts) (xs : List Client) (cs : List Holder) → AreMirrors n0 xs cs → length xs ≡ length cs
 mirrored-length n0 [] [] m = refl
 mirrored-length n0 [] (c ∷ cs) m = absurd m
 mirrored-length n0 (x ∷ xs) [] m = absurd m
@@ -218,7 +218,7 @@ waits-at : (b c : Bool) → b ≡ false → false ≡ (b && c)
 waits-at false c e = refl
 waits-at true c e = absurd (cc e)
 
-pub sent-not : (n0 : Parts) (xs : List Client) (cs : List Holder) (i len : ℕ) (x : Client) → i < length xs → AreMirrored n0 xs cs → x ≡ get_or xs i x → ((m : Holder) → Mirrors n0 x m → len ≡ length m.outbox) → (len ≡ 0 → ⊥) → all_sent cs ≡ all_sent (drop i cs) → false ≡ all_sent cs
+pub sent-not : (n0 : Parts) (xs : List Client) (cs : List Holder) (i len : ℕ) (x : Client) → i < length xs → AreMirrors n0 xs cs → x ≡ get_or xs i x → ((m : Holder) → Mirrors n0 x m → len ≡ length m.outbox) → (len ≡ 0 → ⊥) → all_sent cs ≡ all_sent (drop i cs) → false ≡ all_sent cs
 sent-not n0 xs cs i len x lt m is f some so_far =
     let o : HasOwnAt n0 xs cs i = own-at n0 xs cs i lt m in
     let e : len ≡ length o.own.outbox = f o.own (o.mirrors x is) in
@@ -229,7 +229,7 @@ none-at : (b c : Bool) → b ≡ true → (b && c) ≡ c
 none-at true c e = refl
 none-at false c e = absurd (cc e)
 
-pub sent-more : (n0 : Parts) (xs : List Client) (cs : List Holder) (i len : ℕ) (x : Client) → i < length xs → AreMirrored n0 xs cs → x ≡ get_or xs i x → ((m : Holder) → Mirrors n0 x m → len ≡ length m.outbox) → len ≡ 0 → all_sent cs ≡ all_sent (drop i cs) → all_sent cs ≡ all_sent (drop (i + 1) cs)
+pub sent-more : (n0 : Parts) (xs : List Client) (cs : List Holder) (i len : ℕ) (x : Client) → i < length xs → AreMirrors n0 xs cs → x ≡ get_or xs i x → ((m : Holder) → Mirrors n0 x m → len ≡ length m.outbox) → len ≡ 0 → all_sent cs ≡ all_sent (drop i cs) → all_sent cs ≡ all_sent (drop (i + 1) cs)
 sent-more n0 xs cs i len x lt m is f none so_far =
     let o : HasOwnAt n0 xs cs i = own-at n0 xs cs i lt m in
     let e : len ≡ length o.own.outbox = f o.own (o.mirrors x is) in
@@ -237,5 +237,5 @@ sent-more n0 xs cs i len x lt m is f none so_far =
     let one : suc i ≡ i + 1 = omega arith in
     so_far ∙ (ap all_sent o.front ∙ (none-at (length o.own.outbox == 0) (all_sent (drop (suc i) cs)) empty ∙ ap (λ k. all_sent (drop k cs)) one))
 
-pub sent-end : (n0 : Parts) (xs : List Client) (cs : List Holder) (i : ℕ) → length xs ≤ i → AreMirrored n0 xs cs → all_sent cs ≡ all_sent (drop i cs) → true ≡ all_sent cs
+pub sent-end : (n0 : Parts) (xs : List Client) (cs : List Holder) (i : ℕ) → length xs ≤ i → AreMirrors n0 xs cs → all_sent cs ≡ all_sent (drop i cs) → true ≡ all_sent cs
 sent-end n0 xs cs i le m so_far = let e : length xs ≡ length cs = mirrored-length n0 xs cs m in sym (so_far ∙ ap all_sent (drop_all i cs (omega (arith, e, le))))

@@ -24,7 +24,7 @@ use Rattle.transcript.specs.Texts.{as_text}
 use Rattle.driver.specs.Turns.{Looked, turns_from, AreMarks}
 use Rattle.driver.specs.Player.{Game, Stage, say, states_at, helped_since}
 use Rattle.driver.specs.Headline.{AllOfRun, IsEvaluation, TakeReadyLanes, call_of}
-use Rattle.driver.specs.Clients.{AreMirrored}
+use Rattle.driver.specs.Clients.{AreMirrors}
 use Rattle.driver.specs.Statuses.{Tells, status_lines}
 use Rattle.driver.specs.Settling.{AreEvaluationsBy, HasGoneOn, HasSettled}
 use Rattle.driver.specs.Standing.{Stands, HasPlayed, entries_of, turns_of}
@@ -115,7 +115,7 @@ looked-stands g p p' s lines st gone ec em =
           };
       honest = subst (λ x. AllByRecursion (IsHonest g.opening x) s.clients) (sym gone.history) (all-honest g.opening h gone.more (jobs_from (opening g.opening) [] h) s.clients gone.session.opening (rest-replies (opening g.opening) [] h gone.more (subst (HasReplies (opening g.opening) []) gone.history gone.session.legal.replies)) gone.evaluations st.honest);
       apart = st.apart;
-      mirrored = subst (λ v. AreMirrored g.opening v.items s.clients) (sym ec) st.mirrored;
+      mirrored = subst (λ v. AreMirrors g.opening v.items s.clients) (sym ec) st.mirrored;
     }
 
 -- one turn more, and that a look

@@ -103,7 +103,7 @@ IsWriting n before after (Some (BookRefused why)) = ⊥
 IsWriting n before after (Some ScriptUnread) = ⊥
 IsWriting n before after (Some (ScriptRefused why)) = ⊥
 IsWriting n before after (Some SinkFailed) = Rose before.faults after.faults × IsCutText (text_of (tidied n)) before after
-IsWriting n before after (Some OutOfMemory) = Unit {0}
+IsWriting n before after (Some OutOfMemory) = after.written ≡ before.written
 
 -- the words ask to play this script, and their book was read, with no other read, and accepted
 pub record HasReadBook (words : List (List ℕ)) (held : Option (List (List ℕ × List ℕ))) (script : List ℕ) (r : Read) (before after : Input) : Type 0 where

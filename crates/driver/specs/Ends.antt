@@ -1,5 +1,6 @@
 -- How playing a script ends.
-use Rattle.std.specs.Prelude.{◌≡◌, ℕ, ◌⊎◌, List, [], ◌∷◌, ◌++◌, length}
+use Rattle.std.specs.declared.alloc.Global.{Global}
+use Rattle.std.specs.Prelude.{◌≡◌, ℕ, ◌⊎◌, List, [], ◌∷◌, ◌++◌, length, IsErrOf, Result, String, string_bytes}
 use Rattle.session_ops.specs.declared.entry.Entry.{Entry}
 use Rattle.session_ops.specs.State.{state}
 use Rattle.transcript.specs.Texts.{as_text}
@@ -11,8 +12,10 @@ use Rattle.driver.specs.declared.player.Player.{Player}
 use Rattle.book_outside.specs.Outside.{Rose}
 use Rattle.notebook.specs.declared.parts.Parts.{Parts}
 use Rattle.script.specs.declared.content.Content.{Content}
-use Rattle.driver.specs.Headline.{IsPlayed, IsBrokenOff, IsCut}
+use Rattle.driver.specs.Headline.{IsPlayed, IsBrokenOff, IsCut, HasLeftFront}
 use Rattle.driver.specs.declared.outcome.Report.{Report}
+use Rattle.driver.specs.declared.play.PlayFault.{PlayFault}
+use Rattle.driver.specs.declared.play.PlayFault.TheVariants.{SinkFailed as SinkFault}
 use Rattle.driver.specs.declared.play.Played.{Played}
 use Rattle.driver.specs.declared.play.Played.TheVariants.{Done, SinkFailed, OutOfMemory}
 
@@ -62,7 +65,37 @@ pub record IsCutOff (n0 : Parts) (notices : List (List ℕ)) (content : Content)
   pub cut : IsCut n0 notices content 0 report.history report.marks before after
   pub rose : Rose before.faults after.faults
 
+-- there was no memory for more: nothing was written, or a front of what an actual history prints
+abbrev pub IsLeftSo : Parts → List (List ℕ) → Content → Output → Output → Type 0
+IsLeftSo n0 notices content before after = (after ≡ before) ⊎ HasLeftFront n0 notices content 0 before after
+
+-- the same of the end, whose write may have been asked for
+abbrev pub EndsLeft : Parts → Player → Player → Output → Output → Type 0
+EndsLeft n0 old new before after = (after ≡ before) ⊎ EndsCut n0 old new before after
+
+-- the same of the script, whatever notices came before it
+pub record IsLeftAfter (n0 : Parts) (content : Content) (before after : Output) : Type 0 where
+  pub history : List Entry
+  pub marks : List ℕ
+  pub cut : IsCutAfter n0 content history marks before after
+
+-- of a text no write was asked for, or just a front of it was written
+abbrev pub IsLeftOf : List ℕ → Output → Output → Type 0
+IsLeftOf text before after = (after ≡ before) ⊎ AreCut (text ∷ []) before after
+
+-- what the end prints
+abbrev pub ends_text : Parts → Player → List ℕ
+ends_text n0 p = as_text (end_lines (state n0 (history_of p.session)))
+
+-- the end settled, left a mark, and prints this
+abbrev pub EndsWith : Parts → Player → Player → String Global → Type 0
+EndsWith n0 old new text = HasEnded n0 old new × (string_bytes text ≡ ends_text n0 new)
+
+-- a sink that failed has counted it
+abbrev pub CountsFailure : {T : Type 0} → Result T PlayFault → ℕ → ℕ → Type 0
+CountsFailure result before after = IsErrOf result SinkFault → Rose before after
+
 abbrev pub IsPlayedSo : Parts → List (List ℕ) → Content → Output → Output → Played → Type 0
 IsPlayedSo n0 notices content before after (Done report) = IsPlayedOut n0 notices content report.history report.marks before after
 IsPlayedSo n0 notices content before after (SinkFailed report) = IsCutOff n0 notices content before after report
-IsPlayedSo n0 notices content before after OutOfMemory = Unit {0}
+IsPlayedSo n0 notices content before after OutOfMemory = IsLeftSo n0 notices content before after

@@ -138,3 +138,9 @@ pub record IsCut (n0 : Parts) (notices : List (List ℕ)) (script : Content) (wo
   pub pieces : List (List ℕ)
   pub run : IsPlayed n0 notices script workers h marks pieces ⊎ IsBrokenOff n0 notices script workers h marks pieces
   pub written : AreCut pieces before after
+
+-- such a front stands written, of some actual history
+pub record HasLeftFront (n0 : Parts) (notices : List (List ℕ)) (script : Content) (workers : ℕ) (before after : Output) : Type 0 where
+  pub history : List Entry
+  pub marks : List ℕ
+  pub cut : IsCut n0 notices script workers history marks before after

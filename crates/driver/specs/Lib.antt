@@ -6,6 +6,8 @@ pub mod Headline
 pub mod Lines
 pub mod Player
 pub mod Playing
+pub mod Plays
+pub mod Printed
 pub mod Program
 pub mod Settling
 pub mod Standing

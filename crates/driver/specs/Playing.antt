@@ -29,3 +29,8 @@ pub record HaveBrokenOff (g : Game) (lines : List ScriptLine) (old new : Player)
   pub pieces : List (List ℕ)
   pub played : ArePlayed g first old new s pieces
   pub written : AreCut pieces before after
+
+-- a line found no memory: what stands written is what a play that broke off there, with this player, leaves
+pub record HaveStopped (g : Game) (lines : List ScriptLine) (old : Player) (s : Stage) (before after : Output) : Type 0 where
+  pub last : Player
+  pub broken : HaveBrokenOff g lines old last s before after

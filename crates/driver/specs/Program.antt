@@ -15,7 +15,7 @@ use Rattle.script.specs.declared.error.ScriptError.{ScriptError}
 use Rattle.script.specs.declared.error.ScriptError.TheVariants.{OutOfMemory as ScriptMemory}
 use Rattle.script.specs.Script.{IsScriptOf, IsScriptCause}
 use Rattle.driver.specs.Lines.{notice_line}
-use Rattle.driver.specs.Headline.{IsPlayed, IsCut}
+use Rattle.driver.specs.Headline.{IsPlayed, IsCut, HasLeftFront}
 use Rattle.driver.specs.Around.{Around, IsWrittenText, IsCutText, AreWritten}
 use Rattle.driver.specs.declared.outcome.Report.{Report}
 use Rattle.driver.specs.declared.outcome.RunFault.{RunFault}
@@ -31,6 +31,9 @@ format_words book = codes "format" ∷ book ∷ []
 
 abbrev pub IsFormat : List (List ℕ) → List ℕ → Type 0
 IsFormat words book = words ≡ format_words book
+
+abbrev pub IsNoFormat : List (List ℕ) → Type 0
+IsNoFormat words = (book : List ℕ) → ¬ IsFormat words book
 
 -- the words are in one of these forms, with this book
 abbrev pub NamesBook : List (List ℕ) → List ℕ → Type 0
@@ -99,7 +102,7 @@ IsUnwritten a = a.sink_after ≡ a.sink_before
 -- status 1: the words are in neither form
 pub record HasBadWords (words : List (List ℕ)) (a : Around) : Type 0 where
   pub no_play : (book script : List ℕ) → ¬ IsPlay words book script
-  pub no_format : (book : List ℕ) → ¬ IsFormat words book
+  pub no_format : IsNoFormat words
   pub reads : NothingWasRead a
   pub unwritten : IsUnwritten a
 
@@ -172,6 +175,16 @@ pub record HasFormatted (words : List (List ℕ)) (a : Around) (given : Option R
   pub report : given ≡ None
   pub written : IsWrittenText (text_of (tidied accepted.notebook)) a.sink_before a.sink_after
 
+-- status 7 of both: nothing was written
+abbrev pub NothingIsWritten : Around → Type 0
+NothingIsWritten a = a.sink_after.written ≡ a.sink_before.written
+
+-- or of `play`: book and script were accepted, and a front of what an actual history prints stands written
+pub record HasStopped (words : List (List ℕ)) (a : Around) : Type 0 where
+  pub accepted : ScriptIsAccepted words a.held
+  pub reads : BothWereRead a accepted.read.accepted.read.book accepted.read.script false
+  pub left : HasLeftFront accepted.read.accepted.notebook (map notice_line accepted.read.accepted.notices) accepted.content 0 a.sink_before a.sink_after
+
 -- the fault and the report of each status, with its cause
 abbrev pub IsAnswer : List (List ℕ) → Around → Option Report → Option RunFault → Type 0
 IsAnswer words a report None = HasPlayedAll words a report ⊎ HasFormatted words a report
@@ -181,7 +194,7 @@ IsAnswer words a report (Some (BookRefused why)) = HasRefusedBook words a why ×
 IsAnswer words a report (Some ScriptUnread) = HasUnreadScript words a × (report ≡ None)
 IsAnswer words a report (Some (ScriptRefused why)) = HasRefusedScript words a why × (report ≡ None)
 IsAnswer words a report (Some SinkFailed) = HasFailedSink words a report ⊎ HasCutBook words a report
-IsAnswer words a report (Some OutOfMemory) = report ≡ None
+IsAnswer words a report (Some OutOfMemory) = (report ≡ None) × (NothingIsWritten a ⊎ HasStopped words a)
 
 -- the same of a book that is formatted, by its name: 1, 4 and 5 are no status of it
 abbrev pub IsFormatAnswer : List ℕ → Around → Option Report → Option RunFault → Type 0
@@ -192,7 +205,7 @@ IsFormatAnswer book a report (Some (BookRefused why)) = HasRefusedBook (format_w
 IsFormatAnswer book a report (Some ScriptUnread) = ⊥
 IsFormatAnswer book a report (Some (ScriptRefused why)) = ⊥
 IsFormatAnswer book a report (Some SinkFailed) = HasCutBook (format_words book) a report
-IsFormatAnswer book a report (Some OutOfMemory) = report ≡ None
+IsFormatAnswer book a report (Some OutOfMemory) = (report ≡ None) × NothingIsWritten a
 
 -- the words are in a form, and whatever the shelf gives of the files that they name is accepted, which says something where the shelf tells what it holds
 pub record AreAcceptable (words : List (List ℕ)) (held : Option (List (List ℕ × List ℕ))) : Type 0 where

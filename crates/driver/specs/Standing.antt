@@ -26,7 +26,7 @@ use Rattle.driver.specs.Turns.{Turn, turns_from, AreMarks}
 use Rattle.driver.specs.Player.{Game, Stage, play_line, round, receive_some}
 use Rattle.driver.specs.Headline.{AllOfRun, AllAnswered, AllFair, TakeReadyLanes, call_of}
 use Rattle.world.specs.Sound.{AreApart}
-use Rattle.driver.specs.Clients.{AreMirrored}
+use Rattle.driver.specs.Clients.{AreMirrors}
 use Rattle.driver.specs.declared.player.Player.{Player}
 
 -- a history with its clients
@@ -56,7 +56,7 @@ pub record Stands (g : Game) (p : Player) (s : Stage) : Type 0 where
   pub whole : IsWhole (world_of g.opening (entries_of p) s.clients)
   pub honest : AreHonest (world_of g.opening (entries_of p) s.clients)
   pub apart : AreApart (map number_of s.clients)
-  pub mirrored : AreMirrored g.opening p.clients.items s.clients
+  pub mirrored : AreMirrors g.opening p.clients.items s.clients
 
 -- with just the turns that came with it, one act leads from a stage to another, before which the act after it stands; what it printed is what the stage says
 pub record Leads (g : Game) (act next : Stage → Option Stage) (old new : Player) (s : Stage) (before out : List ℕ) : Type 0 where

@@ -1,5 +1,6 @@
 -- The states of the setup and code cells, as lines.
-use Rattle.std.specs.Prelude.{◌≡◌, ℕ, ◌==◌, if◌then◌else◌, List, [], ◌∷◌, ◌++◌, length, IsSome, option_map, unwrap_or}
+use Rattle.std.specs.declared.alloc.Global.{Global}
+use Rattle.std.specs.Prelude.{◌≡◌, ℕ, ◌==◌, if◌then◌else◌, List, [], ◌∷◌, ◌++◌, length, IsSome, option_map, unwrap_or, OnOk, Result, String}
 use Rattle.notebook.specs.declared.parts.Cell.{Cell}
 use Rattle.notebook.specs.declared.parts.Section.{Section}
 use Rattle.notebook.specs.declared.parts.Kind.{Kind}
@@ -14,6 +15,7 @@ use Rattle.lanes.specs.declared.work.Work.{Work}
 use Rattle.lanes.specs.Work.{is_queued, is_aborted, is_running, last_finished, path_read, shown_in}
 use Rattle.transcript.specs.States.{state_line}
 use Rattle.session_core.specs.Session.{Session, IsSession, state_of}
+use Rattle.driver.specs.Printed.{AppendsLines}
 
 -- what a cell's last evaluation is worth now
 abbrev pub validity_now : Parts → Work → ℕ → Validity
@@ -68,3 +70,7 @@ pub record Tells (n : Parts) (w : Work) (s : Session) : Type 0 where
   pub session : IsSession opening s
   pub book : n ≡ (state_of opening s).book
   pub work : w ≡ (state_of opening s).work
+
+-- whatever notebook and work the session tells of, where all have paths whose lines these are, the lines are put at the end of a text
+abbrev pub Lists : {T E : Type 0} → Result T E → (Parts → Type 0) → (Parts → Work → List (List ℕ)) → Session → String Global → String Global → Type 0
+Lists result have_paths lines s out out' = (n : Parts) (w : Work) → Tells n w s → have_paths n → OnOk result (AppendsLines (lines n w) out out')

@@ -1,11 +1,11 @@
 //! The printed lines of a script.
-ghost use Rattle.std.specs.Prelude.{◌≡◌, ◌≢◌, ◌++◌, ◌∷◌, [], Option, Some, OnOk, string_bytes, codes};
-ghost use Rattle.transcript.specs.Texts.{as_text};
+ghost use Rattle.std.specs.Prelude.{◌≢◌, ◌++◌, [], Option, Some, OnOk, codes};
 ghost use Rattle.notebook.specs.declared.parts.Cell.{Cell};
 ghost use Rattle.client_sync.specs.Client.{Pending};
 ghost use Rattle.client_sync.specs.Stands.{IsPendingOf, IsViewOf};
 ghost use Rattle.std.specs.Option.{option_copied};
 ghost use Rattle.driver.specs.Lines.{notice_line, joined_words, not_joined_words, left_words, raw_joined_words, raw_not_joined_words, raw_words, raw_refused_words, no_client_words, edit_words, posted_words, not_posted_words, sent_words, nothing_words, received_words, sync_words, flight_words, pending_answer, pending_words, error_words};
+ghost use Rattle.driver.specs.Printed.{Appends, AppendsLine};
 
 use client_sync::{EditError, PendingEdits};
 use delta::Delta;
@@ -16,7 +16,7 @@ use transcript::{push_delta, push_named, push_plain, push_refusal, push_reply};
 
 /// `notice LINE KIND`.
 pub(crate) fn push_notice(out: &mut String, notice: &Notice) -> Result<(), AllocError>
-    ensures { OnOk result (string_bytes out.new ≡ string_bytes out.old ++ as_text (notice_line notice.now ∷ [])) }
+    ensures { OnOk result (AppendsLine (notice_line notice.now) out.old out.new) }
 {
     push_named(out, "notice ", notice.line)?;
     match notice.kind {
@@ -27,7 +27,7 @@ pub(crate) fn push_notice(out: &mut String, notice: &Notice) -> Result<(), Alloc
 
 /// `NAME joined at K`.
 pub(crate) fn push_joined(out: &mut String, name: &str, at: u64) -> Result<(), AllocError>
-    ensures { OnOk result (string_bytes out.new ≡ string_bytes out.old ++ as_text (joined_words name.now at ∷ [])) }
+    ensures { OnOk result (AppendsLine (joined_words name.now at) out.old out.new) }
 {
     push_plain(out, name)?;
     push_named(out, " joined at ", at)?;
@@ -36,7 +36,7 @@ pub(crate) fn push_joined(out: &mut String, name: &str, at: u64) -> Result<(), A
 
 /// `NAME join: R`.
 pub(crate) fn push_not_joined(out: &mut String, name: &str, reply: &Reply) -> Result<(), AllocError>
-    ensures { OnOk result (string_bytes out.new ≡ string_bytes out.old ++ as_text (not_joined_words name.now reply.now ∷ [])) }
+    ensures { OnOk result (AppendsLine (not_joined_words name.now reply.now) out.old out.new) }
 {
     push_plain(out, name)?;
     push_plain(out, " join: ")?;
@@ -46,7 +46,7 @@ pub(crate) fn push_not_joined(out: &mut String, name: &str, reply: &Reply) -> Re
 
 /// `NAME leave: R`.
 pub(crate) fn push_left(out: &mut String, name: &str, reply: &Reply) -> Result<(), AllocError>
-    ensures { OnOk result (string_bytes out.new ≡ string_bytes out.old ++ as_text (left_words name.now reply.now ∷ [])) }
+    ensures { OnOk result (AppendsLine (left_words name.now reply.now) out.old out.new) }
 {
     push_plain(out, name)?;
     push_plain(out, " leave: ")?;
@@ -56,7 +56,7 @@ pub(crate) fn push_left(out: &mut String, name: &str, reply: &Reply) -> Result<(
 
 /// `NAME rawjoined at K`.
 pub(crate) fn push_raw_joined(out: &mut String, name: &str, at: u64) -> Result<(), AllocError>
-    ensures { OnOk result (string_bytes out.new ≡ string_bytes out.old ++ as_text (raw_joined_words name.now at ∷ [])) }
+    ensures { OnOk result (AppendsLine (raw_joined_words name.now at) out.old out.new) }
 {
     push_plain(out, name)?;
     push_named(out, " rawjoined at ", at)?;
@@ -69,7 +69,7 @@ pub(crate) fn push_raw_not_joined(
     name: &str,
     reply: &Reply,
 ) -> Result<(), AllocError>
-    ensures { OnOk result (string_bytes out.new ≡ string_bytes out.old ++ as_text (raw_not_joined_words name.now reply.now ∷ [])) }
+    ensures { OnOk result (AppendsLine (raw_not_joined_words name.now reply.now) out.old out.new) }
 {
     push_plain(out, name)?;
     push_plain(out, " rawjoin: ")?;
@@ -79,7 +79,7 @@ pub(crate) fn push_raw_not_joined(
 
 /// `NAME raw: R`.
 pub(crate) fn push_raw(out: &mut String, name: &str, reply: &Reply) -> Result<(), AllocError>
-    ensures { OnOk result (string_bytes out.new ≡ string_bytes out.old ++ as_text (raw_words name.now reply.now ∷ [])) }
+    ensures { OnOk result (AppendsLine (raw_words name.now reply.now) out.old out.new) }
 {
     push_plain(out, name)?;
     push_plain(out, " raw: ")?;
@@ -89,7 +89,7 @@ pub(crate) fn push_raw(out: &mut String, name: &str, reply: &Reply) -> Result<()
 
 /// `NAME raw: refused HasClient`.
 pub(crate) fn push_raw_refused(out: &mut String, name: &str) -> Result<(), AllocError>
-    ensures { OnOk result (string_bytes out.new ≡ string_bytes out.old ++ as_text (raw_refused_words name.now ∷ [])) }
+    ensures { OnOk result (AppendsLine (raw_refused_words name.now) out.old out.new) }
 {
     push_plain(out, name)?;
     push_plain(out, " raw: refused HasClient\n")
@@ -97,7 +97,7 @@ pub(crate) fn push_raw_refused(out: &mut String, name: &str) -> Result<(), Alloc
 
 /// `NAME WORD: refused NotJoined`.
 pub(crate) fn push_no_client(out: &mut String, name: &str, word: &str) -> Result<(), AllocError>
-    ensures { OnOk result (string_bytes out.new ≡ string_bytes out.old ++ as_text (no_client_words name.now word.now ∷ [])) }
+    ensures { OnOk result (AppendsLine (no_client_words name.now word.now) out.old out.new) }
 {
     push_not_joined_note(out, name, word)?;
     push_plain(out, "\n")
@@ -105,7 +105,7 @@ pub(crate) fn push_no_client(out: &mut String, name: &str, word: &str) -> Result
 
 /// `NAME WORD: refused NotJoined`, without its end.
 fn push_not_joined_note(out: &mut String, name: &str, word: &str) -> Result<(), AllocError>
-    ensures { OnOk result (string_bytes out.new ≡ string_bytes out.old ++ no_client_words name.now word.now) }
+    ensures { OnOk result (Appends (no_client_words name.now word.now) out.old out.new) }
 {
     push_word_of(out, name, word)?;
     push_plain(out, ": refused NotJoined")?;
@@ -114,7 +114,7 @@ fn push_not_joined_note(out: &mut String, name: &str, word: &str) -> Result<(), 
 
 /// `NAME WORD`.
 fn push_word_of(out: &mut String, name: &str, word: &str) -> Result<(), AllocError>
-    ensures { OnOk result (string_bytes out.new ≡ string_bytes out.old ++ (name.now ++ (codes " " ++ word.now))) }
+    ensures { OnOk result (Appends ((name.now ++ (codes " " ++ word.now))) out.old out.new) }
 {
     push_plain(out, name)?;
     push_plain(out, " ")?;
@@ -123,7 +123,7 @@ fn push_word_of(out: &mut String, name: &str, word: &str) -> Result<(), AllocErr
 
 /// `NAME edit CELL: `.
 fn push_edit_head(out: &mut String, name: &str, cell: u64) -> Result<(), AllocError>
-    ensures { OnOk result (string_bytes out.new ≡ string_bytes out.old ++ edit_words name.now cell []) }
+    ensures { OnOk result (Appends (edit_words name.now cell []) out.old out.new) }
 {
     push_plain(out, name)?;
     push_named(out, " edit ", cell)?;
@@ -132,7 +132,7 @@ fn push_edit_head(out: &mut String, name: &str, cell: u64) -> Result<(), AllocEr
 
 /// `NAME edit CELL: ok`.
 pub(crate) fn push_edited(out: &mut String, name: &str, cell: u64) -> Result<(), AllocError>
-    ensures { OnOk result (string_bytes out.new ≡ string_bytes out.old ++ as_text (edit_words name.now cell (codes "ok") ∷ [])) }
+    ensures { OnOk result (AppendsLine (edit_words name.now cell (codes "ok")) out.old out.new) }
 {
     push_edit_head(out, name, cell)?;
     push_plain(out, "ok\n")
@@ -145,7 +145,9 @@ pub(crate) fn push_edit_refused(
     cell: u64,
     why: EditError,
 ) -> Result<(), AllocError>
-    ensures printed { OnOk result (string_bytes out.new ≡ string_bytes out.old ++ as_text (edit_words name.now cell (codes "refused " ++ error_words why) ∷ [])) }
+    ensures printed { OnOk result
+        (AppendsLine (edit_words name.now cell (codes "refused " ++ error_words why))
+        out.old out.new) }
     ensures named { OnOk result (why ≢ EditError.OutOfMemory) }
 {
     push_edit_head(out, name, cell)?;
@@ -157,7 +159,7 @@ pub(crate) fn push_edit_refused(
 /// The name of an edit's error, with its number where it has one. Want of memory has none, and is
 /// handed on.
 fn push_edit_error(out: &mut String, why: EditError) -> Result<(), AllocError>
-    ensures printed { OnOk result (string_bytes out.new ≡ string_bytes out.old ++ error_words why) }
+    ensures printed { OnOk result (Appends (error_words why) out.old out.new) }
     ensures named { OnOk result (why ≢ EditError.OutOfMemory) }
 {
     match why {
@@ -171,7 +173,7 @@ fn push_edit_error(out: &mut String, why: EditError) -> Result<(), AllocError>
 
 /// `NAME post: ok`.
 pub(crate) fn push_posted(out: &mut String, name: &str) -> Result<(), AllocError>
-    ensures { OnOk result (string_bytes out.new ≡ string_bytes out.old ++ as_text (posted_words name.now ∷ [])) }
+    ensures { OnOk result (AppendsLine (posted_words name.now) out.old out.new) }
 {
     push_plain(out, name)?;
     push_plain(out, " post: ok\n")
@@ -179,7 +181,7 @@ pub(crate) fn push_posted(out: &mut String, name: &str) -> Result<(), AllocError
 
 /// `NAME post: refused NoCell`, of a report.
 pub(crate) fn push_not_posted(out: &mut String, name: &str) -> Result<(), AllocError>
-    ensures { OnOk result (string_bytes out.new ≡ string_bytes out.old ++ as_text (not_posted_words name.now ∷ [])) }
+    ensures { OnOk result (AppendsLine (not_posted_words name.now) out.old out.new) }
 {
     push_plain(out, name)?;
     push_plain(out, " post: refused NoCell\n")
@@ -187,7 +189,7 @@ pub(crate) fn push_not_posted(out: &mut String, name: &str) -> Result<(), AllocE
 
 /// `NAME sent: R`.
 pub(crate) fn push_sent(out: &mut String, name: &str, reply: &Reply) -> Result<(), AllocError>
-    ensures { OnOk result (string_bytes out.new ≡ string_bytes out.old ++ as_text (sent_words name.now reply.now ∷ [])) }
+    ensures { OnOk result (AppendsLine (sent_words name.now reply.now) out.old out.new) }
 {
     push_plain(out, name)?;
     push_plain(out, " sent: ")?;
@@ -197,7 +199,7 @@ pub(crate) fn push_sent(out: &mut String, name: &str, reply: &Reply) -> Result<(
 
 /// `sync at K`.
 pub(crate) fn push_sync(out: &mut String, at: u64) -> Result<(), AllocError>
-    ensures { OnOk result (string_bytes out.new ≡ string_bytes out.old ++ as_text (sync_words at ∷ [])) }
+    ensures { OnOk result (AppendsLine (sync_words at) out.old out.new) }
 {
     push_named(out, "sync at ", at)?;
     push_plain(out, "\n")
@@ -205,7 +207,7 @@ pub(crate) fn push_sync(out: &mut String, at: u64) -> Result<(), AllocError>
 
 /// `NAME sent: nothing`.
 pub(crate) fn push_nothing_sent(out: &mut String, name: &str) -> Result<(), AllocError>
-    ensures { OnOk result (string_bytes out.new ≡ string_bytes out.old ++ as_text (nothing_words name.now ∷ [])) }
+    ensures { OnOk result (AppendsLine (nothing_words name.now) out.old out.new) }
 {
     push_plain(out, name)?;
     push_plain(out, " sent: nothing\n")
@@ -213,7 +215,7 @@ pub(crate) fn push_nothing_sent(out: &mut String, name: &str) -> Result<(), Allo
 
 /// `NAME at K`.
 pub(crate) fn push_received(out: &mut String, name: &str, at: u64) -> Result<(), AllocError>
-    ensures { OnOk result (string_bytes out.new ≡ string_bytes out.old ++ as_text (received_words name.now at ∷ [])) }
+    ensures { OnOk result (AppendsLine (received_words name.now at) out.old out.new) }
 {
     push_plain(out, name)?;
     push_named(out, " at ", at)?;
@@ -228,7 +230,9 @@ pub(crate) fn push_pending(
     edits: Option<PendingEdits<'_>>,
     messages: u64,
 ) -> Result<(), AllocError>
-    ensures { (own : Option Cell) (p : Option Pending) → IsPendingOf own edits.entry p → OnOk result (string_bytes out.new ≡ string_bytes out.old ++ as_text (pending_words name.now cell (pending_answer own p messages) ∷ [])) }
+    ensures { (own : Option Cell) (p : Option Pending) → IsPendingOf own edits.entry p
+        → OnOk result (AppendsLine (pending_words name.now cell (pending_answer own p messages))
+        out.old out.new) }
 {
     push_plain(out, name)?;
     push_named(out, " pending ", cell)?;
@@ -243,7 +247,8 @@ fn push_pending_answer(
     edits: Option<PendingEdits<'_>>,
     messages: u64,
 ) -> Result<(), AllocError>
-    ensures { (own : Option Cell) (p : Option Pending) → IsPendingOf own edits.entry p → OnOk result (string_bytes out.new ≡ string_bytes out.old ++ pending_answer own p messages) }
+    ensures { (own : Option Cell) (p : Option Pending) → IsPendingOf own edits.entry p
+        → OnOk result (Appends (pending_answer own p messages) out.old out.new) }
 {
     match edits {
         None => push_plain(out, "refused NoCell"),
@@ -253,7 +258,8 @@ fn push_pending_answer(
 
 /// `inflight DELTA buffer DELTA outbox N`.
 fn push_edits(out: &mut String, edits: PendingEdits<'_>, messages: u64) -> Result<(), AllocError>
-    ensures { (own : Cell) (p : Option Pending) → IsViewOf edits.entry p → OnOk result (string_bytes out.new ≡ string_bytes out.old ++ pending_answer (Some own) p messages) }
+    ensures { (own : Cell) (p : Option Pending) → IsViewOf edits.entry p
+        → OnOk result (Appends (pending_answer (Some own) p messages) out.old out.new) }
 {
     push_plain(out, "inflight ")?;
     push_flight(out, edits.inflight)?;
@@ -264,7 +270,7 @@ fn push_edits(out: &mut String, edits: PendingEdits<'_>, messages: u64) -> Resul
 
 /// A delta in flight; `none` where there is none.
 fn push_flight(out: &mut String, flight: Option<&Delta>) -> Result<(), AllocError>
-    ensures { OnOk result (string_bytes out.new ≡ string_bytes out.old ++ flight_words (option_copied flight.entry)) }
+    ensures { OnOk result (Appends (flight_words (option_copied flight.entry)) out.old out.new) }
 {
     match flight {
         None => push_plain(out, "none"),

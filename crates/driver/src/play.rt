@@ -1,18 +1,17 @@
 //! Playing a script over a notebook, with what is printed written to a sink.
-ghost use Rattle.std.specs.Prelude.{◌≡◌, ℕ, ◌≤◌, [], ◌∷◌, List, map, OnOk, IfOk, OnErr, IsErrOf, string_bytes};
-ghost use Rattle.book_outside.specs.Outside.{Rose, AppendsAll, AppendsFront};
-ghost use Rattle.driver.specs.Around.{Output, output, write_of, AreWritten, AreCut};
+ghost use Rattle.std.specs.Prelude.{◌≡◌, ◌≤◌, [], ◌∷◌, map, OnOk, IfOk, OnErr, IsErrOf, string_bytes};
+ghost use Rattle.book_outside.specs.Outside.{AppendsAll, AppendsFront};
+ghost use Rattle.driver.specs.Around.{output, write_of, AreWritten, AreCut};
 ghost use Rattle.notebook.specs.declared.parts.Parts.{Parts};
-ghost use Rattle.session_ops.specs.State.{state};
 ghost use Rattle.transcript.specs.Texts.{as_text};
 ghost use Rattle.driver.specs.Lines.{notice_line};
-ghost use Rattle.driver.specs.Player.{Game, Stage};
-ghost use Rattle.driver.specs.Transcript.{end_lines};
+ghost use Rattle.driver.specs.Player.{Stage};
 ghost use Rattle.session_core.specs.Session.{IsSession, history_of};
 ghost use Rattle.driver.specs.Headline.{IsCut};
-ghost use Rattle.driver.specs.Standing.{Stands, HasPlayed, entries_of};
-ghost use Rattle.driver.specs.Playing.{HavePlayed, HaveBrokenOff};
-ghost use Rattle.driver.specs.Ends.{IsPlayedSo, IsPlayedOut, IsPlayedAfter, IsCutAfter, IsFresh, EndsWritten, EndsCut, HasEnded};
+ghost use Rattle.driver.specs.Standing.{Stands, entries_of};
+ghost use Rattle.driver.specs.Playing.{HavePlayed, HaveBrokenOff, HaveStopped};
+ghost use Rattle.driver.specs.Ends.{IsPlayedSo, IsPlayedOut, IsPlayedAfter, IsCutAfter, IsFresh, EndsWritten, EndsCut, CountsFailure, EndsLeft, EndsWith, IsLeftAfter, IsLeftOf, IsLeftSo, ends_text};
+ghost use Rattle.driver.specs.Plays.{game, PrintsIn};
 
 use crate::lines::push_notice;
 use crate::outcome::Report;
@@ -56,7 +55,8 @@ pub(crate) fn play<R: Wait, K: Sink>(
     sink: &mut K,
 ) -> Played
     ensures played { IsPlayedSo book (map notice_line notices.now) content.now
-        (output K.writes K.faults K.written sink.old) (output K.writes K.faults K.written sink.new)
+        (output K.writes K.faults K.written sink.old)
+        (output K.writes K.faults K.written sink.new)
         result }
 {
     let mut player = match Player::new(alloc, book) {
@@ -96,12 +96,19 @@ fn play_all<R: Wait, K: Sink>(
 ) -> Result<(), PlayFault>
     ensures played { (n0 : Parts) → IsFresh n0 player.old → OnOk result
         (IsPlayedOut n0 (map notice_line notices.now) content.now (entries_of player.new) player.new.marks
-        (output K.writes K.faults K.written sink.old) (output K.writes K.faults K.written sink.new)) }
+        (output K.writes K.faults K.written sink.old)
+        (output K.writes K.faults K.written sink.new)) }
     ensures failed { (n0 : Parts) → IsFresh n0 player.old → IsErrOf result PlayFault.SinkFailed
-        → IsCut n0 (map notice_line notices.now) content.now 0 (entries_of player.new) player.new.marks
-        (output K.writes K.faults K.written sink.old) (output K.writes K.faults K.written sink.new) }
+        → IsCut n0 (map notice_line notices.now) content.now 0
+        (entries_of player.new) player.new.marks
+        (output K.writes K.faults K.written sink.old)
+        (output K.writes K.faults K.written sink.new) }
+    ensures stopped { (n0 : Parts) → IsFresh n0 player.old → IsErrOf result PlayFault.OutOfMemory
+        → IsLeftSo n0 (map notice_line notices.now) content.now
+        (output K.writes K.faults K.written sink.old)
+        (output K.writes K.faults K.written sink.new) }
     ensures counts { K.faults sink.old ≤ K.faults sink.new }
-    ensures rose { IsErrOf result PlayFault.SinkFailed → Rose (K.faults sink.old) (K.faults sink.new) }
+    ensures rose { CountsFailure result (K.faults sink.old) (K.faults sink.new) }
 {
     match write_notices(player.alloc, notices, sink) {
         Ok(()) => play_script(rt, player, content, sink),
@@ -112,12 +119,18 @@ fn play_all<R: Wait, K: Sink>(
 /// Writes the lines of the notices as one piece, if there are any.
 fn write_notices<K: Sink>(alloc: Global, notices: &[Notice], sink: &mut K) -> Result<(), PlayFault>
     ensures written { OnOk result (AreWritten (as_text (map notice_line notices.now) ∷ [])
-        (output K.writes K.faults K.written sink.old) (output K.writes K.faults K.written sink.new)) }
+        (output K.writes K.faults K.written sink.old)
+        (output K.writes K.faults K.written sink.new)) }
     ensures cut { IsErrOf result PlayFault.SinkFailed
         → AreCut (as_text (map notice_line notices.now) ∷ [])
-        (output K.writes K.faults K.written sink.old) (output K.writes K.faults K.written sink.new) }
+        (output K.writes K.faults K.written sink.old)
+        (output K.writes K.faults K.written sink.new) }
+    ensures stopped { IsErrOf result PlayFault.OutOfMemory
+        → IsLeftOf (as_text (map notice_line notices.now))
+        (output K.writes K.faults K.written sink.old)
+        (output K.writes K.faults K.written sink.new) }
     ensures counts { K.faults sink.old ≤ K.faults sink.new }
-    ensures rose { IsErrOf result PlayFault.SinkFailed → Rose (K.faults sink.old) (K.faults sink.new) }
+    ensures rose { CountsFailure result (K.faults sink.old) (K.faults sink.new) }
 {
     match notices_text(alloc, notices) {
         Ok(text) => write_piece(sink, text.as_str()),
@@ -145,12 +158,18 @@ fn play_script<R: Wait, K: Sink>(
 ) -> Result<(), PlayFault>
     ensures played { (n0 : Parts) → IsFresh n0 player.old → OnOk result
         (IsPlayedAfter n0 content.now (entries_of player.new) player.new.marks
-        (output K.writes K.faults K.written sink.old) (output K.writes K.faults K.written sink.new)) }
+        (output K.writes K.faults K.written sink.old)
+        (output K.writes K.faults K.written sink.new)) }
     ensures failed { (n0 : Parts) → IsFresh n0 player.old → IsErrOf result PlayFault.SinkFailed
         → IsCutAfter n0 content.now (entries_of player.new) player.new.marks
-        (output K.writes K.faults K.written sink.old) (output K.writes K.faults K.written sink.new) }
+        (output K.writes K.faults K.written sink.old)
+        (output K.writes K.faults K.written sink.new) }
+    ensures stopped { (n0 : Parts) → IsFresh n0 player.old → IsErrOf result PlayFault.OutOfMemory
+        → IsLeftAfter n0 content.now
+        (output K.writes K.faults K.written sink.old)
+        (output K.writes K.faults K.written sink.new) }
     ensures counts { K.faults sink.old ≤ K.faults sink.new }
-    ensures rose { IsErrOf result PlayFault.SinkFailed → Rose (K.faults sink.old) (K.faults sink.new) }
+    ensures rose { CountsFailure result (K.faults sink.old) (K.faults sink.new) }
 {
     let names = content.names.as_slice();
     let lines = content.lines.as_slice();
@@ -164,12 +183,20 @@ fn play_script<R: Wait, K: Sink>(
 fn play_end<R: Wait, K: Sink>(rt: &R, player: &mut Player, sink: &mut K) -> Result<(), PlayFault>
     ensures played { (n0 : Parts) → IsSession n0 player.old.session → OnOk result
         (EndsWritten n0 player.old player.new
-        (output K.writes K.faults K.written sink.old) (output K.writes K.faults K.written sink.new)) }
-    ensures failed { (n0 : Parts) → IsSession n0 player.old.session → IsErrOf result PlayFault.SinkFailed
+        (output K.writes K.faults K.written sink.old)
+        (output K.writes K.faults K.written sink.new)) }
+    ensures failed { (n0 : Parts) → IsSession n0 player.old.session
+        → IsErrOf result PlayFault.SinkFailed
         → EndsCut n0 player.old player.new
-        (output K.writes K.faults K.written sink.old) (output K.writes K.faults K.written sink.new) }
+        (output K.writes K.faults K.written sink.old)
+        (output K.writes K.faults K.written sink.new) }
+    ensures stopped { (n0 : Parts) → IsSession n0 player.old.session
+        → IsErrOf result PlayFault.OutOfMemory
+        → EndsLeft n0 player.old player.new
+        (output K.writes K.faults K.written sink.old)
+        (output K.writes K.faults K.written sink.new) }
     ensures counts { K.faults sink.old ≤ K.faults sink.new }
-    ensures rose { IsErrOf result PlayFault.SinkFailed → Rose (K.faults sink.old) (K.faults sink.new) }
+    ensures rose { CountsFailure result (K.faults sink.old) (K.faults sink.new) }
 {
     match end_text(rt, player) {
         Ok(text) => write_piece(sink, text.as_str()),
@@ -189,14 +216,23 @@ fn play_lines<R: Wait, K: Sink>(
         → Stands (record { opening = n0; names = names.now }) player.old s
         → OnOk result
         (HavePlayed (record { opening = n0; names = names.now }) lines.now player.old player.new s
-        (output K.writes K.faults K.written sink.old) (output K.writes K.faults K.written sink.new)) }
+        (output K.writes K.faults K.written sink.old)
+        (output K.writes K.faults K.written sink.new)) }
     ensures failed { (n0 : Parts) (s : Stage)
         → Stands (record { opening = n0; names = names.now }) player.old s
         → IsErrOf result PlayFault.SinkFailed
-        → HaveBrokenOff (record { opening = n0; names = names.now }) lines.now player.old player.new s
-        (output K.writes K.faults K.written sink.old) (output K.writes K.faults K.written sink.new) }
+        → HaveBrokenOff (record { opening = n0; names = names.now })
+        lines.now player.old player.new s
+        (output K.writes K.faults K.written sink.old)
+        (output K.writes K.faults K.written sink.new) }
+    ensures stopped { (n0 : Parts) (s : Stage)
+        → Stands (record { opening = n0; names = names.now }) player.old s
+        → IsErrOf result PlayFault.OutOfMemory
+        → HaveStopped (record { opening = n0; names = names.now }) lines.now player.old s
+        (output K.writes K.faults K.written sink.old)
+        (output K.writes K.faults K.written sink.new) }
     ensures counts { K.faults sink.old ≤ K.faults sink.new }
-    ensures rose { IsErrOf result PlayFault.SinkFailed → Rose (K.faults sink.old) (K.faults sink.new) }
+    ensures rose { CountsFailure result (K.faults sink.old) (K.faults sink.new) }
 {
     for line in lines {
         let piece = line_text(rt, player, names, line)?;
@@ -215,7 +251,8 @@ fn line_text<R: Wait>(
     names: &[Text],
     line: &ScriptLine,
 ) -> Result<String, PlayFault>
-    ensures played { (n0 : Parts) (s : Stage) → Stands (record { opening = n0; names = names.now }) player.old s → IfOk result (λ piece. HasPlayed (record { opening = n0; names = names.now }) line.now player.old player.new s [] (string_bytes piece)) }
+    ensures played { (n0 : Parts) (s : Stage) → Stands (game n0 names.now) player.old s
+        → IfOk result (λ piece. PrintsIn names.now line.now player.old player.new piece n0 s) }
     ensures memory { OnErr result (IsErrOf result PlayFault.OutOfMemory) }
 {
     match player.line(rt, names, line) {
@@ -226,7 +263,8 @@ fn line_text<R: Wait>(
 
 /// What the end prints, after it settled and left a mark.
 fn end_text<R: Wait>(rt: &R, player: &mut Player) -> Result<String, AllocError>
-    ensures { (n0 : Parts) → IsSession n0 player.old.session → IfOk result (λ t. HasEnded n0 player.old player.new × (string_bytes t ≡ as_text (end_lines (state n0 (entries_of player.new))))) }
+    ensures { (n0 : Parts) → IsSession n0 player.old.session
+        → IfOk result (EndsWith n0 player.old player.new) }
 {
     settle(rt, player.alloc, &mut player.session, 1)?;
     player.look()?;
@@ -235,12 +273,13 @@ fn end_text<R: Wait>(rt: &R, player: &mut Player) -> Result<String, AllocError>
 }
 
 fn end_of(player: &Player) -> Result<String, AllocError>
-    ensures { (n0 : Parts) → IsSession n0 player.now.session → IfOk result (λ t. string_bytes t ≡ as_text (end_lines (state n0 (entries_of player.now)))) }
+    ensures { (n0 : Parts) → IsSession n0 player.now.session
+        → IfOk result (λ t. string_bytes t ≡ ends_text n0 player.now) }
 {
     let mut out = String::new(player.alloc);
     push_plain(&mut out, "end\n")?;
     let snapshot = player.session.snapshot()?;
-    push_book(&mut out, &snapshot.book, snapshot.revs.as_slice())?;
+    push_book(&mut out, snapshot.book(), snapshot.revs())?;
     push_statuses(
         &mut out,
         player.alloc,
@@ -254,9 +293,9 @@ fn end_of(player: &Player) -> Result<String, AllocError>
 fn write_piece<K: Sink>(sink: &mut K, piece: &str) -> Result<(), PlayFault>
     ensures asked { K.writes sink.new ≡ write_of piece.now (K.writes sink.old) }
     ensures written { OnOk result (AppendsAll (K.written sink.old) piece.now (K.written sink.new)) }
-    ensures cut { IsErrOf result PlayFault.SinkFailed → AppendsFront (K.written sink.old) piece.now (K.written sink.new) }
+    ensures cut { OnErr result (AppendsFront (K.written sink.old) piece.now (K.written sink.new)) }
     ensures counts { K.faults sink.old ≤ K.faults sink.new }
-    ensures rose { IsErrOf result PlayFault.SinkFailed → Rose (K.faults sink.old) (K.faults sink.new) }
+    ensures rose { CountsFailure result (K.faults sink.old) (K.faults sink.new) }
 {
     if piece.is_empty() {
         return Ok(());

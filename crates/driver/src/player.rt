@@ -1,22 +1,19 @@
 //! The player: it plays the lines of a script over the session and the clients, and prints.
-ghost use Rattle.std.specs.Prelude.{◌≡◌, ℕ, ◌+◌, ◌∷◌, [], ◌++◌, OnOk, IfOk, List, map, slice_get, length, string_bytes};
+ghost use Rattle.std.specs.Prelude.{◌≡◌, OnOk, IfOk, map, slice_get, length};
 ghost use Rattle.std.specs.Str.{encode_utf8_all};
 ghost use Rattle.notebook.specs.declared.parts.Parts.{Parts};
 ghost use Rattle.session_ops.specs.declared.entry.Call.TheVariants.{Client as ByClient};
 ghost use Rattle.script.specs.declared.line.ScriptLine.TheVariants.{Join, Leave, Edit, Post, PostReport, Send, Recv, Sync, Show, Pending, RawJoin, Raw, Settle, Cells, Book};
 ghost use Rattle.session_core.specs.Session.{IsSession};
-ghost use Rattle.client_sync.specs.Client.{Client as Holder, with_message};
-ghost use Rattle.client_sync.specs.Stands.{Mirrors, IsPostable, number_in};
-ghost use Rattle.session_ops.specs.declared.entry.Op.TheVariants.{Leave as Leaves, Join as Joins};
-ghost use Rattle.transcript.specs.Texts.{as_text};
+ghost use Rattle.client_sync.specs.Stands.{IsPostable, number_in};
 ghost use Rattle.driver.specs.Lines.{posted_words};
-ghost use Rattle.driver.specs.Clients.{IsLawful};
-ghost use Rattle.world.specs.Waiting.{IsHonest};
-ghost use Rattle.driver.specs.Player.{Game, Stage, name_of, or_no_name, how_many, send_next, send_many, send_all, send_each, send_or_nothing};
-ghost use Rattle.driver.specs.Standing.{Stands, HasPlayed, HasDone, HasAsked, HasCalled, HasRound, HasAdmitted, HasEdited, HasPosted, HasReported, HasReceivedSome, entries_of};
+ghost use Rattle.driver.specs.Player.{Stage, or_no_name, how_many, send_next, send_many, send_all, send_each, send_or_nothing};
+ghost use Rattle.driver.specs.Standing.{Stands, HasCalled, HasAdmitted};
 ghost use Rattle.driver.specs.Ends.{IsFresh};
+ghost use Rattle.driver.specs.Printed.{AppendsLine};
+ghost use Rattle.driver.specs.Plays.{game, Plays, PlaysFor, DoesFor, PlaysIn, DoesIn, PrintsIn, AsksFor, EditsOwn, PostsOwn, ReportsOwn, ReceivesOwn, RoundsIn, HasLooked, Posts};
 
-use crate::clients::{all_sent, deliver, deliver_all, place_of, remove};
+use crate::clients::{all_sent, deliver, deliver_all, remove};
 use crate::lines::{
     push_edit_refused, push_edited, push_joined, push_left, push_no_client, push_not_joined,
     push_not_posted, push_nothing_sent, push_pending, push_posted, push_raw, push_raw_joined,
@@ -35,6 +32,7 @@ use std::alloc::{AllocError, Global};
 use std::sync::Wait;
 use transcript::{push_book, push_plain};
 use utf16_text::Text;
+use world::place_of;
 
 /// The session, its clients in the order of their joining, and the marks: for each turn that made no
 /// entry, the history's length that it found.
@@ -66,7 +64,8 @@ impl Player {
         names: &[Text],
         line: &ScriptLine,
     ) -> Result<String, AllocError>
-        ensures { (n0 : Parts) (s : Stage) → Stands (record { opening = n0; names = names.now }) self.old s → IfOk result (λ piece. HasPlayed (record { opening = n0; names = names.now }) line.now self.old self.new s [] (string_bytes piece)) }
+        ensures { (n0 : Parts) (s : Stage) → Stands (game n0 names.now) self.old s
+            → IfOk result (λ piece. PrintsIn names.now line.now self.old self.new piece n0 s) }
     {
         let mut out = String::new(self.alloc);
         match line {
@@ -130,7 +129,7 @@ impl Player {
         client: u32,
         out: &mut String,
     ) -> Result<(), AllocError>
-        ensures { (g : Game) (s : Stage) → name.now ≡ name_of g client → Stands g self.old s → OnOk result (HasPlayed g (Join client) self.old self.new s (string_bytes out.old) (string_bytes out.new)) }
+        ensures { PlaysFor result name.now client (Join client) self.old self.new out.old out.new }
     {
         let reply = self.call(client, Op::Join)?;
         match reply {
@@ -150,7 +149,7 @@ impl Player {
         client: u32,
         out: &mut String,
     ) -> Result<(), AllocError>
-        ensures { (g : Game) (s : Stage) → name.now ≡ name_of g client → Stands g self.old s → OnOk result (HasPlayed g (Leave client) self.old self.new s (string_bytes out.old) (string_bytes out.new)) }
+        ensures { PlaysFor result name.now client (Leave client) self.old self.new out.old out.new }
     {
         let reply = self.call(client, Op::Leave)?;
         remove(&mut self.clients, client);
@@ -165,7 +164,8 @@ impl Player {
         client: u32,
         out: &mut String,
     ) -> Result<(), AllocError>
-        ensures { (g : Game) (s : Stage) → name.now ≡ name_of g client → Stands g self.old s → OnOk result (HasPlayed g (RawJoin client) self.old self.new s (string_bytes out.old) (string_bytes out.new)) }
+        ensures { PlaysFor result name.now client (RawJoin client)
+            self.old self.new out.old out.new }
     {
         let reply = self.call(client, Op::Join)?;
         match reply {
@@ -185,7 +185,8 @@ impl Player {
         op: &Op,
         out: &mut String,
     ) -> Result<(), AllocError>
-        ensures { (g : Game) (s : Stage) → name.now ≡ name_of g client → Stands g self.old s → OnOk result (HasPlayed g (Raw client op.now) self.old self.new s (string_bytes out.old) (string_bytes out.new)) }
+        ensures { PlaysFor result name.now client (Raw client op.now)
+            self.old self.new out.old out.new }
     {
         match place_of(&self.clients, client) {
             Some(_) => push_raw_refused(out, name)?,
@@ -199,7 +200,8 @@ impl Player {
 
     /// One call of the session under the number 0.
     fn call(&mut self, client: u32, op: Op) -> Result<Reply, AllocError>
-        ensures { (n0 : Parts) → IsSession n0 self.old.session → IfOk result (HasCalled n0 (ByClient client op) self.old self.new) }
+        ensures { (n0 : Parts) → IsSession n0 self.old.session
+            → IfOk result (HasCalled n0 (ByClient client op) self.old self.new) }
     {
         let reply = self.session.apply(0, client, op)?;
         Ok(reply)
@@ -207,7 +209,8 @@ impl Player {
 
     /// Makes a client that has just joined.
     fn admit(&mut self, client: u32) -> Result<(), AllocError>
-        ensures { (n0 : Parts) → IsSession n0 self.old.session → OnOk result (HasAdmitted n0 client self.old self.new) }
+        ensures { (n0 : Parts) → IsSession n0 self.old.session
+            → OnOk result (HasAdmitted n0 client self.old self.new) }
     {
         let snapshot = self.session.snapshot()?;
         let own = Client::join(self.alloc, client, snapshot)?;
@@ -224,7 +227,8 @@ impl Player {
         delta: &Delta,
         out: &mut String,
     ) -> Result<(), AllocError>
-        ensures { (g : Game) (s : Stage) → name.now ≡ name_of g client → Stands g self.old s → OnOk result (HasPlayed g (Edit client cell delta.now) self.old self.new s (string_bytes out.old) (string_bytes out.new)) }
+        ensures { PlaysFor result name.now client (Edit client cell delta.now)
+            self.old self.new out.old out.new }
     {
         match place_of(&self.clients, client) {
             None => push_no_client(out, name, "edit")?,
@@ -241,7 +245,8 @@ impl Player {
         op: &Op,
         out: &mut String,
     ) -> Result<(), AllocError>
-        ensures { (g : Game) (s : Stage) → name.now ≡ name_of g client → Stands g self.old s → OnOk result (HasPlayed g (Post client op.now) self.old self.new s (string_bytes out.old) (string_bytes out.new)) }
+        ensures { PlaysFor result name.now client (Post client op.now)
+            self.old self.new out.old out.new }
     {
         match place_of(&self.clients, client) {
             None => push_no_client(out, name, "post")?,
@@ -258,7 +263,8 @@ impl Player {
         cell: CellId,
         out: &mut String,
     ) -> Result<(), AllocError>
-        ensures { (g : Game) (s : Stage) → name.now ≡ name_of g client → Stands g self.old s → OnOk result (HasPlayed g (PostReport client cell) self.old self.new s (string_bytes out.old) (string_bytes out.new)) }
+        ensures { PlaysFor result name.now client (PostReport client cell)
+            self.old self.new out.old out.new }
     {
         match place_of(&self.clients, client) {
             None => push_no_client(out, name, "post")?,
@@ -275,7 +281,8 @@ impl Player {
         count: Count,
         out: &mut String,
     ) -> Result<(), AllocError>
-        ensures { (g : Game) (s : Stage) → name.now ≡ name_of g client → Stands g self.old s → OnOk result (HasPlayed g (Send client count) self.old self.new s (string_bytes out.old) (string_bytes out.new)) }
+        ensures { PlaysFor result name.now client (Send client count)
+            self.old self.new out.old out.new }
     {
         match place_of(&self.clients, client) {
             None => push_no_client(out, name, "send")?,
@@ -295,7 +302,8 @@ impl Player {
         many: u64,
         out: &mut String,
     ) -> Result<(), AllocError>
-        ensures { (g : Game) (s : Stage) → name.now ≡ name_of g client → Stands g self.old s → OnOk result (HasDone g (send_or_nothing g client many) self.old self.new s (string_bytes out.old) (string_bytes out.new)) }
+        ensures { DoesFor result name.now client (λ g. send_or_nothing g client many)
+            self.old self.new out.old out.new }
     {
         if many == 0 {
             push_nothing_sent(out, name)?;
@@ -313,7 +321,8 @@ impl Player {
         many: u64,
         out: &mut String,
     ) -> Result<(), AllocError>
-        ensures { (g : Game) (s : Stage) → name.now ≡ name_of g client → Stands g self.old s → OnOk result (HasDone g (send_many many g client) self.old self.new s (string_bytes out.old) (string_bytes out.new)) }
+        ensures { DoesFor result name.now client (λ g. send_many many g client)
+            self.old self.new out.old out.new }
     {
         for _ in 0..many {
             self.send_next(name, client, out)?;
@@ -323,7 +332,8 @@ impl Player {
 
     /// Sends the message at the front of a client's outbox, if there is one.
     fn send_next(&mut self, name: &str, client: u32, out: &mut String) -> Result<(), AllocError>
-        ensures { (g : Game) (s : Stage) → name.now ≡ name_of g client → Stands g self.old s → OnOk result (HasDone g (send_next g client) self.old self.new s (string_bytes out.old) (string_bytes out.new)) }
+        ensures { DoesFor result name.now client (λ g. send_next g client)
+            self.old self.new out.old out.new }
     {
         let Some(at) = place_of(&self.clients, client) else {
             return Ok(());
@@ -339,7 +349,7 @@ impl Player {
 
     /// Makes a client's call, and prints its answer as that to a message.
     fn ask(&mut self, name: &str, client: u32, op: Op, out: &mut String) -> Result<(), AllocError>
-        ensures { (n0 : Parts) → IsSession n0 self.old.session → OnOk result (HasAsked n0 (ByClient client op) name.now self.old self.new (string_bytes out.old) (string_bytes out.new)) }
+        ensures { AsksFor result (ByClient client op) name.now self.old self.new out.old out.new }
     {
         let reply = self.call(client, op)?;
         push_sent(out, name, &reply)?;
@@ -354,7 +364,8 @@ impl Player {
         count: Count,
         out: &mut String,
     ) -> Result<(), AllocError>
-        ensures { (g : Game) (s : Stage) → name.now ≡ name_of g client → Stands g self.old s → OnOk result (HasPlayed g (Recv client count) self.old self.new s (string_bytes out.old) (string_bytes out.new)) }
+        ensures { PlaysFor result name.now client (Recv client count)
+            self.old self.new out.old out.new }
     {
         match place_of(&self.clients, client) {
             None => push_no_client(out, name, "recv")?,
@@ -374,7 +385,7 @@ impl Player {
         names: &[Text],
         out: &mut String,
     ) -> Result<(), AllocError>
-        ensures { (n0 : Parts) (s : Stage) → Stands (record { opening = n0; names = names.now }) self.old s → OnOk result (HasPlayed (record { opening = n0; names = names.now }) Sync self.old self.new s (string_bytes out.old) (string_bytes out.new)) }
+        ensures { PlaysIn result names.now Sync self.old self.new out.old out.new }
     {
         for _ in rt.forever() {
             let at = self.round(names, out)?;
@@ -388,7 +399,7 @@ impl Player {
 
     /// A round of `sync`: every client sends all, and then receives all. It gives the history's length.
     fn round(&mut self, names: &[Text], out: &mut String) -> Result<u64, AllocError>
-        ensures { (n0 : Parts) (s : Stage) → Stands (record { opening = n0; names = names.now }) self.old s → IfOk result (λ at. HasRound (record { opening = n0; names = names.now }) self.old self.new s at (string_bytes out.old) (string_bytes out.new)) }
+        ensures { RoundsIn result names.now self.old self.new out.old out.new }
     {
         let numbers = self.numbers()?;
         self.send_each(names, numbers.as_slice(), out)?;
@@ -415,7 +426,8 @@ impl Player {
         numbers: &[u32],
         out: &mut String,
     ) -> Result<(), AllocError>
-        ensures { (n0 : Parts) (s : Stage) → Stands (record { opening = n0; names = names.now }) self.old s → OnOk result (HasDone (record { opening = n0; names = names.now }) (send_each (record { opening = n0; names = names.now }) numbers.now) self.old self.new s (string_bytes out.old) (string_bytes out.new)) }
+        ensures { DoesIn result names.now (λ g. send_each g numbers.now)
+            self.old self.new out.old out.new }
     {
         for number in numbers {
             self.send_all(name_in(names, *number), *number, out)?;
@@ -425,7 +437,8 @@ impl Player {
 
     /// A client sends all that stands in its outbox.
     fn send_all(&mut self, name: &str, client: u32, out: &mut String) -> Result<(), AllocError>
-        ensures { (g : Game) (s : Stage) → name.now ≡ name_of g client → Stands g self.old s → OnOk result (HasDone g (send_all g client) self.old self.new s (string_bytes out.old) (string_bytes out.new)) }
+        ensures { DoesFor result name.now client (λ g. send_all g client)
+            self.old self.new out.old out.new }
     {
         let Some(at) = place_of(&self.clients, client) else {
             return Ok(());
@@ -437,7 +450,7 @@ impl Player {
 
     /// A turn that makes no entry: it leaves a mark, which is the history's length.
     pub(crate) fn look(&mut self) -> Result<u64, AllocError>
-        ensures { IfOk result (λ at. (at ≡ length (entries_of self.old)) × (self.new ≡ record self.old { marks = self.old.marks ++ at ∷ [] })) }
+        ensures { IfOk result (HasLooked self.old self.new) }
     {
         let at = self.session.history().len() as u64;
         self.marks.push(at)?;
@@ -451,7 +464,7 @@ impl Player {
         client: u32,
         out: &mut String,
     ) -> Result<(), AllocError>
-        ensures { (g : Game) (s : Stage) → name.now ≡ name_of g client → Stands g self.old s → OnOk result (HasPlayed g (Show client) self.old self.new s (string_bytes out.old) (string_bytes out.new)) }
+        ensures { PlaysFor result name.now client (Show client) self.old self.new out.old out.new }
     {
         match place_of(&self.clients, client) {
             None => push_no_client(out, name, "show")?,
@@ -471,7 +484,8 @@ impl Player {
         cell: CellId,
         out: &mut String,
     ) -> Result<(), AllocError>
-        ensures { (g : Game) (s : Stage) → name.now ≡ name_of g client → Stands g self.old s → OnOk result (HasPlayed g (Pending client cell) self.old self.new s (string_bytes out.old) (string_bytes out.new)) }
+        ensures { PlaysFor result name.now client (Pending client cell)
+            self.old self.new out.old out.new }
     {
         match place_of(&self.clients, client) {
             None => push_no_client(out, name, "pending")?,
@@ -485,7 +499,7 @@ impl Player {
 
     /// `settle`.
     pub(crate) fn settle<R: Wait>(&mut self, rt: &R, out: &mut String) -> Result<(), AllocError>
-        ensures { (g : Game) (s : Stage) → Stands g self.old s → OnOk result (HasPlayed g Settle self.old self.new s (string_bytes out.old) (string_bytes out.new)) }
+        ensures { Plays result Settle self.old self.new out.old out.new }
     {
         settle(rt, self.alloc, &mut self.session, 1)?;
         self.look()?;
@@ -495,7 +509,7 @@ impl Player {
 
     /// `cells`.
     pub(crate) fn cells(&mut self, out: &mut String) -> Result<(), AllocError>
-        ensures { (g : Game) (s : Stage) → Stands g self.old s → OnOk result (HasPlayed g Cells self.old self.new s (string_bytes out.old) (string_bytes out.new)) }
+        ensures { Plays result Cells self.old self.new out.old out.new }
     {
         self.look()?;
         push_statuses(out, self.alloc, self.session.book().parts(), &self.session)?;
@@ -504,7 +518,7 @@ impl Player {
 
     /// `book`.
     pub(crate) fn book(&mut self, out: &mut String) -> Result<(), AllocError>
-        ensures { (g : Game) (s : Stage) → Stands g self.old s → OnOk result (HasPlayed g Book self.old self.new s (string_bytes out.old) (string_bytes out.new)) }
+        ensures { Plays result Book self.old self.new out.old out.new }
     {
         self.look()?;
         let book = livemd_write::text(self.alloc, self.session.book())?;
@@ -521,7 +535,7 @@ fn edit_own(
     delta: &Delta,
     out: &mut String,
 ) -> Result<(), AllocError>
-    ensures { (n0 : Parts) (m : Holder) → Mirrors n0 own.old m → OnOk result (HasEdited n0 name.now cell delta.now own.new m (string_bytes out.old) (string_bytes out.new)) }
+    ensures { EditsOwn result name.now cell delta.now own.old own.new out.old out.new }
 {
     match own.edit(cell, delta) {
         Ok(()) => push_edited(out, name, cell)?,
@@ -538,7 +552,7 @@ fn post_own(
     op: &Op,
     out: &mut String,
 ) -> Result<(), AllocError>
-    ensures { (n0 : Parts) (m : Holder) → Mirrors n0 own.old m → OnOk result (HasPosted n0 name.now op.now own.new m (string_bytes out.old) (string_bytes out.new)) }
+    ensures { PostsOwn result name.now op.now own.old own.new out.old out.new }
 {
     if !op.is_postable() {
         return Ok(());
@@ -555,8 +569,8 @@ fn put_own(
     out: &mut String,
 ) -> Result<(), AllocError>
     requires { IsPostable op.now }
-    ensures posted { (n0 : Parts) (m : Holder) → Mirrors n0 own.old m → OnOk result (Mirrors n0 own.new (with_message m op.now)) }
-    ensures printed { OnOk result (string_bytes out.new ≡ string_bytes out.old ++ as_text (posted_words name.now ∷ [])) }
+    ensures posted { Posts result op.now own.old own.new }
+    ensures printed { OnOk result (AppendsLine (posted_words name.now) out.old out.new) }
 {
     own.post(op.copy(alloc)?)?;
     push_posted(out, name)?;
@@ -570,7 +584,7 @@ fn report_own(
     cell: CellId,
     out: &mut String,
 ) -> Result<(), AllocError>
-    ensures { (n0 : Parts) (m : Holder) → Mirrors n0 own.old m → OnOk result (HasReported n0 name.now cell own.new m (string_bytes out.old) (string_bytes out.new)) }
+    ensures { ReportsOwn result name.now cell own.old own.new out.old out.new }
 {
     match own.post_report(cell) {
         Ok(()) => push_posted(out, name)?,
@@ -588,7 +602,7 @@ fn receive_own(
     name: &str,
     out: &mut String,
 ) -> Result<(), AllocError>
-    ensures { (g : Game) (m : Holder) → IsLawful g.opening history.now → IsHonest g.opening history.now m → Mirrors g.opening own.old m → OnOk result (HasReceivedSome g count history.now m own.new name.now (string_bytes out.old) (string_bytes out.new)) }
+    ensures { ReceivesOwn result count history.now name.now own.old own.new out.old out.new }
 {
     let unseen = (history.len() as u64).saturating_sub(own.cursor());
     deliver(history, own, how_many(count, unseen))?;

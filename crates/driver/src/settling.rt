@@ -5,7 +5,7 @@ ghost use Rattle.session_core.specs.Session.{IsSession, IsHandedOut};
 ghost use Rattle.driver.specs.Settling.{HasGoneOn, HasResponded, HasSettled};
 
 use ex_machine::run;
-use session_core::{Evaluated, PlainJob, Session, STEPS};
+use session_core::{Evaluated, PlainJob, STEPS, Session};
 use std::alloc::{AllocError, Global};
 use std::sync::Wait;
 
@@ -17,7 +17,8 @@ pub(crate) fn settle<R: Wait>(
     session: &mut Session,
     by: u32,
 ) -> Result<(), AllocError>
-    ensures { (n0 : Parts) → IsSession n0 session.old → OnOk result (HasSettled n0 by session.old session.new) }
+    ensures { (n0 : Parts) → IsSession n0 session.old
+        → OnOk result (HasSettled n0 by session.old session.new) }
 {
     for _ in rt.forever() {
         if session.idle() {
@@ -30,7 +31,8 @@ pub(crate) fn settle<R: Wait>(
 
 /// Evaluates the cell that may be evaluated next, if there is one.
 fn evaluate(alloc: Global, session: &mut Session, by: u32) -> Result<(), AllocError>
-    ensures { (n0 : Parts) → IsSession n0 session.old → OnOk result (HasGoneOn n0 by session.old session.new) }
+    ensures { (n0 : Parts) → IsSession n0 session.old
+        → OnOk result (HasGoneOn n0 by session.old session.new) }
 {
     let Some(lane) = session.ready_lane() else {
         return Ok(());
@@ -44,9 +46,11 @@ fn evaluate(alloc: Global, session: &mut Session, by: u32) -> Result<(), AllocEr
 /// Evaluates a job that was handed out, and answers it.
 fn answer(alloc: Global, session: &mut Session, by: u32, job: PlainJob) -> Result<(), AllocError>
     requires { IsHandedOut session.old.opening session.old by job }
-    ensures { (n0 : Parts) → IsSession n0 session.old → OnOk result (HasResponded n0 by job.eval session.old session.new) }
+    ensures { (n0 : Parts) → IsSession n0 session.old
+        → OnOk result (HasResponded n0 by job.eval session.old session.new) }
 {
     let ran = run(alloc, job.source.as_str(), &job.base, STEPS)?;
-    session.respond(by, job.eval, Evaluated::of(ran)?);
+    let given = Evaluated::of(ran)?;
+    session.respond(by, job.eval, given);
     Ok(())
 }

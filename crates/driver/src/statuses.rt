@@ -1,10 +1,11 @@
 //! The printed states of the cells.
-ghost use Rattle.std.specs.Prelude.{◌≡◌, ◌++◌, OnOk, string_bytes};
+ghost use Rattle.std.specs.Prelude.{◌≡◌, OnOk};
 ghost use Rattle.notebook.specs.declared.parts.Parts.{Parts as PartsValue};
 ghost use Rattle.notebook.specs.Flow.{section_lane};
 ghost use Rattle.lanes.specs.declared.work.Work.{Work};
-ghost use Rattle.transcript.specs.Texts.{as_text, ended_line};
-ghost use Rattle.driver.specs.Statuses.{Tells, HasPath, HasPathIfCode, AllHavePaths, AllSectionsHavePaths, cell_line, line_of_kind, code_lines, section_code_lines, setup_line, status_lines};
+ghost use Rattle.transcript.specs.Texts.{ended_line};
+ghost use Rattle.driver.specs.Statuses.{Tells, HasPath, HasPathIfCode, AllHavePaths, AllSectionsHavePaths, cell_line, line_of_kind, code_lines, section_code_lines, setup_line, status_lines, Lists};
+ghost use Rattle.driver.specs.Printed.{Appends, AppendsLines};
 
 use notebook::{Cell, CellId, Kind, Lane, Parts, Section};
 use session_core::{Row, Session};
@@ -18,7 +19,8 @@ pub(crate) fn push_statuses(
     book: &Parts,
     session: &Session,
 ) -> Result<(), AllocError>
-    ensures { (w : Work) → Tells book.now w session.now → OnOk result (string_bytes out.new ≡ string_bytes out.old ++ as_text (status_lines book.now w)) }
+    ensures { (w : Work) → Tells book.now w session.now
+        → OnOk result (AppendsLines (status_lines book.now w) out.old out.new) }
 {
     push_setup(out, alloc, &book.setup, session)?;
     push_sections(out, alloc, book.sections.as_slice(), session)?;
@@ -32,7 +34,8 @@ fn push_setup(
     setup: &Cell,
     session: &Session,
 ) -> Result<(), AllocError>
-    ensures { (n : PartsValue) (w : Work) → Tells n w session.now → HasPath n setup.now.id → OnOk result (string_bytes out.new ≡ string_bytes out.old ++ as_text (setup_line n w setup.now)) }
+    ensures { Lists result (λ n. HasPath n setup.now.id) (λ n w. setup_line n w setup.now)
+        session.now out.old out.new }
 {
     if setup.source.is_empty() {
         return Ok(());
@@ -47,7 +50,8 @@ fn push_sections(
     sections: &[Section],
     session: &Session,
 ) -> Result<(), AllocError>
-    ensures { (n : PartsValue) (w : Work) → Tells n w session.now → AllSectionsHavePaths n sections.now → OnOk result (string_bytes out.new ≡ string_bytes out.old ++ as_text (section_code_lines n w sections.now)) }
+    ensures { Lists result (λ n. AllSectionsHavePaths n sections.now)
+        (λ n w. section_code_lines n w sections.now) session.now out.old out.new }
 {
     for section in sections {
         push_section(out, alloc, section, session)?;
@@ -61,7 +65,9 @@ fn push_section(
     section: &Section,
     session: &Session,
 ) -> Result<(), AllocError>
-    ensures { (n : PartsValue) (w : Work) → Tells n w session.now → AllHavePaths n section.now.cells → OnOk result (string_bytes out.new ≡ string_bytes out.old ++ as_text (code_lines n w (section_lane section.now) section.now.cells)) }
+    ensures { Lists result (λ n. AllHavePaths n section.now.cells)
+        (λ n w. code_lines n w (section_lane section.now) section.now.cells)
+        session.now out.old out.new }
 {
     push_cells(
         out,
@@ -90,7 +96,8 @@ fn push_cells(
     cells: &[Cell],
     session: &Session,
 ) -> Result<(), AllocError>
-    ensures { (n : PartsValue) (w : Work) → Tells n w session.now → AllHavePaths n cells.now → OnOk result (string_bytes out.new ≡ string_bytes out.old ++ as_text (code_lines n w home cells.now)) }
+    ensures { Lists result (λ n. AllHavePaths n cells.now) (λ n w. code_lines n w home cells.now)
+        session.now out.old out.new }
 {
     for cell in cells {
         push_code(out, alloc, home, cell, session)?;
@@ -106,7 +113,8 @@ fn push_code(
     cell: &Cell,
     session: &Session,
 ) -> Result<(), AllocError>
-    ensures { (n : PartsValue) (w : Work) → Tells n w session.now → HasPathIfCode n cell.now cell.now.kind → OnOk result (string_bytes out.new ≡ string_bytes out.old ++ as_text (line_of_kind n w home cell.now cell.now.kind)) }
+    ensures { Lists result (λ n. HasPathIfCode n cell.now cell.now.kind)
+        (λ n w. line_of_kind n w home cell.now cell.now.kind) session.now out.old out.new }
 {
     match cell.kind {
         Kind::Setup | Kind::Markdown => Ok(()),
@@ -125,7 +133,8 @@ fn push_cell(
     home: Lane,
     session: &Session,
 ) -> Result<(), AllocError>
-    ensures { (n : PartsValue) (w : Work) → Tells n w session.now → HasPath n cell → OnOk result (string_bytes out.new ≡ string_bytes out.old ++ ended_line (cell_line n w home cell)) }
+    ensures { (n : PartsValue) (w : Work) → Tells n w session.now → HasPath n cell
+        → OnOk result (Appends (ended_line (cell_line n w home cell)) out.old out.new) }
 {
     match session.row(cell) {
         None => Ok(()),

@@ -1,7 +1,7 @@
 //! The top call: words, shelf and sink in, the status out.
 ghost use Rattle.std.specs.Prelude.{◌≡◌, ◌≤◌, List, ℕ, Option, map, IfSome, MatchOption, string_bytes};
 ghost use Rattle.driver.specs.Around.{Input, input, output, around};
-ghost use Rattle.driver.specs.Program.{IsPlay, IsFormat, IsAnswer, IsFormatAnswer, IsComplete, status_of};
+ghost use Rattle.driver.specs.Program.{IsPlay, IsFormat, IsNoFormat, IsAnswer, IsFormatAnswer, IsComplete, status_of};
 ghost use Rattle.driver.specs.Answers.{BytesAreBook, BytesAreScript, IsBookAnswer, IsScriptAnswer, IsWriting, WordsAnswer, HasReadBook, outcome_of, ended_with};
 
 use crate::outcome::{Outcome, RunFault};
@@ -29,6 +29,7 @@ const MOST_BYTES: u64 = MOST_FILE_BYTES as u64 + 1;
 ///
 /// At the statuses 1 to 5 nothing is written, and no write asked for. At status 6 of `play` a front of
 /// the transcript was written, or of what the lines so far print, and the report is of their history.
+/// At status 7 nothing was written, or, of `play`, such a front of some actual history; no report tells it.
 /// Where words, book and script are in order and neither shelf nor sink fails, the status is 0, or 7
 /// for want of memory.
 pub fn program<R: Threads + Wait + Sync, S: Shelf, K: Sink + Send, G: Gate>(
@@ -61,7 +62,7 @@ pub fn program<R: Threads + Wait + Sync, S: Shelf, K: Sink + Send, G: Gate>(
 /// text is one write.
 ///
 /// The statuses are 0, 2, 3, 6 and 7, and there is no report. At status 6 a front of the text was
-/// written. It waits for nobody.
+/// written, at status 7 nothing. It waits for nobody.
 pub fn format_command<S: Shelf, K: Sink>(
     alloc: Global,
     name: &str,
@@ -104,7 +105,8 @@ fn run_format<S: Shelf, K: Sink>(
 
 /// The names of book and script in the words `play BOOK SCRIPT`.
 fn play_words(words: &[String]) -> Option<(&str, &str)>
-    ensures some { IfSome result (λ names. IsPlay (map string_bytes words.now) names.0.now names.1.now) }
+    ensures some { IfSome result (λ names. IsPlay (map string_bytes words.now)
+        names.0.now names.1.now) }
     ensures none { WordsAnswer (map string_bytes words.now) result }
 {
     match words {
@@ -115,7 +117,8 @@ fn play_words(words: &[String]) -> Option<(&str, &str)>
 
 /// The name of the book in the words `format BOOK`.
 fn format_word(words: &[String]) -> Option<&str>
-    ensures { MatchOption result ((book : List ℕ) → ¬ IsFormat (map string_bytes words.now) book) (λ book. IsFormat (map string_bytes words.now) book.now) }
+    ensures { MatchOption result (IsNoFormat (map string_bytes words.now))
+        (λ book. IsFormat (map string_bytes words.now) book.now) }
 {
     match words {
         [mode, book] if mode.as_str() == "format" => Some(book.as_str()),
@@ -176,7 +179,8 @@ fn run_script<R: Wait, S: Shelf, K: Sink>(
 ) -> Outcome
     ensures status { result.status ≡ status_of result.fault }
     ensures answer { (words : List (List ℕ)) (first : Input)
-        → HasReadBook words (S.held shelf.old) script.now book first (input S.reads S.faults shelf.old)
+        → HasReadBook words (S.held shelf.old) script.now book
+        first (input S.reads S.faults shelf.old)
         → IsAnswer words
         (around (S.held shelf.old)
         first (input S.reads S.faults shelf.new)

@@ -5,8 +5,7 @@ use Rattle.notebook.specs.declared.parts.Parts.{Parts}
 use Rattle.notebook.specs.declared.states.Lane.{Lane}
 use Rattle.session_ops.specs.declared.entry.Call.{Call}
 use Rattle.session_ops.specs.declared.entry.Reply.{Reply}
-use Rattle.session_ops.specs.declared.snapshot.Snapshot.{Snapshot}
-use Rattle.session_ops.specs.Snapshot.{IsSnapshot}
+use Rattle.session_ops.specs.Snapshot.{IsSnapshot, Snapshot}
 use Rattle.session_ops.specs.State.{State}
 use Rattle.session_core.specs.declared.job.PlainJob.{PlainJob}
 use Rattle.session_core.specs.Session.{Session, IsSession, HasAnswered, HasTriedStart, IsHandedOut, state_of}

@@ -1,5 +1,5 @@
 -- Cells that are asked for, and cancelled.
-use Rattle.std.proofs.Common.{◌≡◌, ℕ, Bool, true, false, if◌then◌else◌, [], ◌∷◌, ◌++◌, Option, Some, None, refl, sym, ap, subst, ◌∙◌}
+use Rattle.std.proofs.Common.{◌≡◌, ℕ, Bool, true, false, if◌then◌else◌, Option, Some, None, refl, sym, ap, subst, ◌∙◌}
 use Rattle.std.specs.Prelude.{◌||◌}
 use Rattle.notebook.specs.declared.parts.Cell.{Cell}
 use Rattle.notebook.specs.declared.parts.Parts.{Parts}
@@ -20,7 +20,7 @@ use Rattle.session_ops.specs.State.{State, reply, code_reply, queue_reply, queue
 use Rattle.session_core.specs.History.{Grows}
 use Rattle.session_core.specs.declared.held.Held.{Held}
 use Rattle.session_core.specs.Logs.{AreLogs}
-use Rattle.session_core.specs.Held.{IsHeld, HasAnswered, history_of, state_of}
+use Rattle.session_core.specs.Held.{IsHeld, HasAnswered, state_of}
 use Rattle.session_core.specs.Session.{entry_of, refused_by}
 use Rattle.session_core.proofs.Owners.{logs-work}
 use Rattle.session_core.proofs.SessionLaws.{answered-session, member-reply, outsider-reply}

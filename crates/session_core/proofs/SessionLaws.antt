@@ -1,6 +1,6 @@
 -- A session goes on standing for the state of its history.
-use Rattle.std.proofs.Common.{◌≡◌, ℕ, Bool, true, false, if◌then◌else◌, [], ◌∷◌, ◌++◌, map, refl, sym, ap, subst, ◌∙◌, arith}
-use Rattle.std.specs.Prelude.{◌≤◌, filter, length, Result, Ok, Err, OnErr, IfOk}
+use Rattle.std.proofs.Common.{◌≡◌, ℕ, Bool, true, false, if◌then◌else◌, [], ◌∷◌, ◌++◌, map, refl, sym, ap, subst, ◌∙◌}
+use Rattle.std.specs.Prelude.{filter, length, Result, Ok, Err, OnErr, IfOk}
 use Rattle.std.specs.List.{AllByRecursion}
 use Rattle.notebook.specs.declared.parts.Parts.{Parts}
 use Rattle.notebook.specs.Rules.{IsNotebook}
@@ -18,14 +18,15 @@ use Rattle.session_ops.specs.declared.entry.Entry.{Entry}
 use Rattle.session_ops.specs.Numbers.{is_in, is_other, without_number}
 use Rattle.session_ops.specs.State.{State, ChangesNothing, state, jobs, jobs_after, opening, after, after_call, reply, joined_reply, stranger_reply, once_left, MayCall, Legal}
 use Rattle.session_ops.proofs.Growing.{state-append, jobs-append, legal-append}
+use Rattle.session_ops.proofs.Shown.{faithful-work}
 use Rattle.session_ops.proofs.Sweeps.{swept-same}
 use Rattle.session_ops.proofs.Settled.{hopeful-state, nothing-changed}
 use Rattle.session_core.specs.declared.held.Held.{Held}
-use Rattle.session_core.specs.History.{Grows, HasRoom, KeepsEntries, owed_after}
+use Rattle.session_core.specs.History.{AreApart, Grows, HasRoom, KeepsEntries, owed_after}
 use Rattle.session_core.specs.Logs.{AreLogs, IsLogIn, LineUp, log_cell, once_joined}
 use Rattle.session_core.specs.Held.{IsHeld, Holds, HasAnswered, LeavesState, IsAsBefore, history_of, state_of}
 use Rattle.session_core.specs.Session.{entry_of}
-use Rattle.session_core.proofs.HistoryLaws.{owed-still, owes-room}
+use Rattle.session_core.proofs.HistoryLaws.{apart-still, owed-still, owes-room}
 use Rattle.session_core.proofs.Owners.{logs-work, logs-kept, opening-logs}
 
 -- a session that was asked one thing more
@@ -37,7 +38,8 @@ answered-session n0 s s' by call answer is may right grown eb ej al ew =
     let t : State = after_call (state_of n0 s) call answer in
     let st : state_of n0 s' ≡ after (state_of n0 s) e = ap (state n0) grown.entries ∙ state-append n0 (history_of s) e in
     let js : jobs n0 (history_of s') ≡ jobs_after (state_of n0 s) (jobs n0 (history_of s)) by call answer = ap (jobs n0) grown.entries ∙ jobs-append n0 (history_of s) e in
-    let enough : length (jobs_after (state_of n0 s) (jobs n0 (history_of s)) by call answer) ≤ owed_after s.history.owed call answer = owed-still (state_of n0 s) (jobs n0 (history_of s)) s.history.owed by call answer may is.owed in
+    let enough : owed_after s.history.owed call answer ≡ length (jobs_after (state_of n0 s) (jobs n0 (history_of s)) by call answer) = owed-still (state_of n0 s) (jobs n0 (history_of s)) s.history.owed by call answer may is.apart is.owed in
+    let below = (faithful-work n0 (history_of s) is.legal).out in
     record {
       right = right;
       history = grown.entries;
@@ -49,7 +51,8 @@ answered-session n0 s s' by call answer is may right grown eb ej al ew =
             joined = ej ∙ sym (ap (λ x. x.joined) st);
             logs = subst (λ x. AreLogs x s'.logs.items) (sym st) (logs-work t (swept t.book t.work) s'.logs.items al);
             work = ew ∙ sym (ap (λ x. x.work) st);
-            owed = subst (λ k. length (jobs n0 (history_of s')) ≤ k) (sym grown.owed) (subst (λ l. length l ≤ owed_after s.history.owed call answer) (sym js) enough);
+            owed = grown.owed ∙ (enough ∙ ap length (sym js));
+            apart = subst AreApart (sym js) (apart-still (state_of n0 s) (jobs n0 (history_of s)) by call answer right below is.apart);
             room = owes-room s'.history _ grown.owed grown.room;
           };
     }
@@ -83,7 +86,8 @@ as-before n0 s s' is eh eb ej al ew =
             joined = ej ∙ (is.joined ∙ ap (λ x. x.joined) st);
             logs = subst (λ x. AreLogs x s'.logs.items) st al;
             work = ew ∙ (is.work ∙ ap (λ x. x.work) st);
-            owed = subst (λ k. length (jobs n0 (history_of s')) ≤ k) (sym eh.owed) (subst (λ h. length (jobs n0 h) ≤ s.history.owed) (sym eh.entries) is.owed);
+            owed = eh.owed ∙ (is.owed ∙ ap (λ h. length (jobs n0 h)) (sym eh.entries));
+            apart = subst (λ h. AreApart (jobs n0 h)) (sym eh.entries) is.apart;
             room = eh.room is.room;
           };
     }
@@ -156,8 +160,8 @@ left-session n0 s s' by client is e grown eb ej ec al ew =
     (ew ∙ (is.work ∙ sym (swept-same (state_of n0 s).book (state_of n0 s).work (hopeful-state n0 (history_of s)))))
 
 -- the opening
-pub opening-session : (n0 : Parts) (s : Held) → IsNotebook n0 → s.book ≡ n0 → s.joined.items ≡ [] → LineUp (opening n0) (cells n0) s.logs.items → s.work ≡ no_work → history_of s ≡ [] → HasRoom s.history.owed s.history → IsHeld n0 s
-opening-session n0 s is eb ej al ew eh room =
+pub opening-session : (n0 : Parts) (s : Held) → IsNotebook n0 → s.book ≡ n0 → s.joined.items ≡ [] → LineUp (opening n0) (cells n0) s.logs.items → s.work ≡ no_work → history_of s ≡ [] → s.history.owed ≡ 0 → HasRoom s.history.owed s.history → IsHeld n0 s
+opening-session n0 s is eb ej al ew eh none room =
     let st : opening n0 ≡ state_of n0 s = ap (state n0) (sym eh) in
     record {
       legal = subst (Legal n0) (sym eh) (record { replies = tt });
@@ -166,7 +170,8 @@ opening-session n0 s is eb ej al ew eh room =
       joined = ej ∙ ap (λ x. x.joined) st;
       logs = subst (λ x. AreLogs x s.logs.items) st (opening-logs n0 s.logs.items is al);
       work = ew ∙ ap (λ x. x.work) st;
-      owed = subst (λ h. length (jobs n0 h) ≤ s.history.owed) (sym eh) (omega arith);
+      owed = none ∙ ap (λ h. length (jobs n0 h)) (sym eh);
+      apart = subst (λ h. AreApart (jobs n0 h)) (sym eh) tt;
       room = room;
     }
 

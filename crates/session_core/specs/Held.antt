@@ -1,5 +1,5 @@
 -- What a session holds stands for the state that its history makes of the opening notebook.
-use Rattle.std.specs.Prelude.{◌≡◌, ◌≤◌, ℕ, List, [], ◌∷◌, ◌++◌, find, length, true, Option, Some, None, Result, IfOk, OnErr, MatchResult}
+use Rattle.std.specs.Prelude.{◌≡◌, ℕ, List, [], ◌∷◌, ◌++◌, find, length, true, Option, Some, None, Result, IfOk, OnErr, MatchResult}
 use Rattle.notebook.specs.declared.parts.Parts.{Parts}
 use Rattle.notebook.specs.declared.states.Lane.{Lane}
 use Rattle.notebook.specs.Rules.{IsNotebook}
@@ -11,6 +11,7 @@ use Rattle.lanes.specs.Work.{may_start}
 use Rattle.session_ops.specs.declared.entry.Call.{Call}
 use Rattle.session_ops.specs.declared.entry.Call.TheVariants.{Client, Start}
 use Rattle.session_ops.specs.declared.entry.Op.{Op}
+use Rattle.session_ops.specs.declared.entry.Op.TheVariants.{Delta}
 use Rattle.session_ops.specs.declared.entry.Refusal.{Refusal}
 use Rattle.session_ops.specs.declared.entry.Reply.{Reply}
 use Rattle.session_ops.specs.declared.entry.Reply.TheVariants.{Started, Refused}
@@ -20,8 +21,9 @@ use Rattle.session_ops.specs.Orderly.{IsOrderly}
 use Rattle.session_ops.specs.State.{State, Job, state, reply, jobs, is_job, Legal, once_made}
 use Rattle.session_core.specs.declared.job.PlainJob.{PlainJob}
 use Rattle.session_core.specs.declared.held.Held.{Held}
+use Rattle.session_core.specs.declared.sources.Edit.{Edit}
 use Rattle.session_core.specs.Jobs.{IsAlong}
-use Rattle.session_core.specs.History.{HasRoom, entries_in}
+use Rattle.session_core.specs.History.{AreApart, HasRoom, entries_in}
 use Rattle.session_core.specs.Logs.{AreLogs}
 use Rattle.session_core.specs.Session.{entry_of, refused_by}
 
@@ -33,7 +35,7 @@ history_of s = entries_in s.history
 abbrev pub state_of : Parts → Held → State
 state_of n0 s = state n0 (history_of s)
 
--- the history is legal, what is held is what the history makes of the opening notebook, and there is room for the answer of each job that is out
+-- the history is legal, what is held is what the history makes of the opening notebook, and as many answers are owed as jobs are out, with room for all of them
 pub record IsHeld (n0 : Parts) (s : Held) : Type 0 where
   pub legal : Legal n0 (history_of s)
   pub opening : IsNotebook n0
@@ -41,7 +43,8 @@ pub record IsHeld (n0 : Parts) (s : Held) : Type 0 where
   pub joined : s.joined.items ≡ (state_of n0 s).joined
   pub logs : AreLogs (state_of n0 s) s.logs.items
   pub work : s.work ≡ (state_of n0 s).work
-  pub owed : length (jobs n0 (history_of s)) ≤ s.history.owed
+  pub owed : s.history.owed ≡ length (jobs n0 (history_of s))
+  pub apart : AreApart (jobs n0 (history_of s))
   pub room : HasRoom s.history.owed s.history
 
 -- the call was answered as the state says, and the history has just that entry more
@@ -76,6 +79,10 @@ pub record HasStarted (n0 : Parts) (by : ℕ) (lane : Lane) (old new : Held) (jo
 abbrev pub HasTriedStart : Parts → ℕ → Lane → Held → Held → Option PlainJob → Type 0
 HasTriedStart n0 by lane old new None = (may_start (state_of n0 old).book (state_of n0 old).work lane ≡ None) × IsAsBefore n0 old new
 HasTriedStart n0 by lane old new (Some job) = HasStarted n0 by lane old new job
+
+-- the operation that a client's edit is
+abbrev pub delta_of : Edit → Op
+delta_of edit = Delta edit.cell edit.base edit.delta
 
 -- whatever the notebook with which it opened: the call is answered as the state says, and one entry more is appended
 abbrev pub Answers : {E : Type 0} → ℕ → Call → Held → Held → Result Reply E → Type 0

@@ -1,11 +1,13 @@
 -- The history keeps room for the answers that are owed.
-use Rattle.std.specs.Prelude.{◌≡◌, ◌≤◌, ℕ, ◌+◌, ◌-◌, List, [], ◌∷◌, ◌++◌}
+use Rattle.std.specs.Prelude.{◌≡◌, ◌≤◌, ℕ, false, ◌+◌, ◌-◌, List, [], ◌∷◌, ◌++◌}
+use Rattle.std.specs.List.{AllByRecursion}
 use Rattle.std.specs.Vec.{vec_len, vec_capacity}
 use Rattle.session_ops.specs.declared.entry.Call.{Call}
 use Rattle.session_ops.specs.declared.entry.Call.TheVariants.{Start, Respond}
 use Rattle.session_ops.specs.declared.entry.Reply.{Reply}
 use Rattle.session_ops.specs.declared.entry.Reply.TheVariants.{Started}
 use Rattle.session_ops.specs.declared.entry.Entry.{Entry}
+use Rattle.session_ops.specs.State.{Job, is_job}
 use Rattle.session_core.specs.declared.history.History.{History}
 
 -- all that was appended
@@ -37,3 +39,8 @@ owed_after owed call answer = owed
 -- the entry was appended, and what it owes is counted
 abbrev pub Grows : History → Entry → History → Type 0
 Grows old entry new = Appends old entry (owed_after old.owed entry.call entry.reply) new
+
+-- each job is under a number of its own
+abbrev pub AreApart : List Job → Type 0
+AreApart [] = Unit {0}
+AreApart (j ∷ js) = AllByRecursion (λ k. is_job j.eval k ≡ false) js × AreApart js

@@ -21,7 +21,8 @@ use crate::sources::Edit;
 use ex_model::Shown;
 use lanes::{Row, Work};
 use notebook::{CellId, Lane, Notebook, Status, Validity};
-use session_ops::{Call, Entry, Op, Refusal, Reply, Snapshot};
+use plain_list::Items;
+use session_ops::{Call, Entry, Op, Refusal, Reply};
 use std::alloc::{AllocError, Global};
 
 /// A notebook with a log for each live cell, the clients that have joined, what is asked of the
@@ -59,7 +60,7 @@ impl Held {
         ensures ok { Answers by (Client client op) self.old self.new result }
         ensures refused { (n0 : Parts) → IsHeld n0 self.old
             → IfOk result (λ answer. ChangesNothing (Client client op) answer
-                → LeavesState n0 self.old self.new) }
+            → LeavesState n0 self.old self.new) }
         ensures err { KeepsAll self.old self.new result }
     {
         match op.change()? {
@@ -156,16 +157,16 @@ impl Held {
         Ok(Reply::Refused(why))
     }
 
-    /// The present notebook with each live cell's revision, and the number of entries.
-    pub(crate) fn snapshot(&self) -> Result<Snapshot, AllocError>
-        ensures { (n0 : Parts) → IsHeld n0 self.now
-            → IfOk result (IsSnapshot (state_of n0 self.now) (length (history_of self.now))) }
+    /// What a snapshot shows: the present notebook, each live cell's revision, and the number of
+    /// entries.
+    pub(crate) fn shown_now(&self) -> Result<(Notebook, Items<(CellId, u64)>, u64), AllocError>
+        ensures { (n0 : Parts) → IsHeld n0 self.now →
+            IfOk result (λ now. IsSnapshot (state_of n0 self.now) (length (history_of self.now))
+            (record { book = now.0; revs = now.1; cursor = now.2 })) }
     {
-        Ok(Snapshot {
-            book: self.book.copy()?,
-            revs: revisions(self.alloc, self.logs.as_slice())?,
-            cursor: self.history.len() as u64,
-        })
+        let book = self.book.copy()?;
+        let revs = revisions(self.alloc, self.logs.as_slice())?;
+        Ok((book, revs, self.history.len() as u64))
     }
 
     /// The first lane that may start: the main one, and then the branches in notebook order. `None`

@@ -8,7 +8,8 @@
 //! for more, but that [`Session::respond`] wants a job that is out. A call appends the one entry that it
 //! names, with the reply of the definitions, and keeps the opening. `IsHandedOut n0 s by job` says that
 //! a job was started under the number `by`, with its source and its bindings, and isn't answered yet:
-//! [`Session::start`] gives it, and no other call than its answer ends it (clauses `out`).
+//! [`Session::start`] gives it, and no other call than its answer ends it (clauses `out`). A start keeps
+//! room for the answer, so [`Session::respond`] takes no memory and can't fail.
 #![tactic(auto)]
 
 mod clients;

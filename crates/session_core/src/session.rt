@@ -103,7 +103,8 @@ impl Session {
         ensures { IfOk result (IsSnapshot (state_of self.now.opening self.now)
             (length (history_of self.now))) }
     {
-        self.held.snapshot()
+        let (book, revs, cursor) = self.held.shown_now()?;
+        Ok(Snapshot::of(book, revs, cursor))
     }
 
     /// The first lane that may start: the main one, and then the branches in notebook order. `None`

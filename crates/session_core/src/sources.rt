@@ -4,14 +4,14 @@ ghost use Rattle.notebook.specs.declared.parts.Cell.{Cell};
 ghost use Rattle.notebook.specs.declared.parts.Parts.{Parts};
 ghost use Rattle.notebook.specs.Book.{cells, found};
 ghost use Rattle.session_ops.specs.declared.entry.Call.TheVariants.{Client};
-ghost use Rattle.session_ops.specs.declared.entry.Op.TheVariants.{Delta as IsDelta, Report as IsReport};
+ghost use Rattle.session_ops.specs.declared.entry.Op.TheVariants.{Report as IsReport};
 ghost use Rattle.session_ops.specs.declared.entry.Reply.TheVariants.{Refused};
 ghost use Rattle.session_ops.specs.Numbers.{is_in};
 ghost use Rattle.session_ops.specs.State.{State, reply, report_reply};
 ghost use Rattle.revisions.specs.Answer.{IsReportCause};
 ghost use Rattle.session_core.specs.Logs.{place_in};
 ghost use Rattle.session_core.specs.Stands.{IsMovedIn, source_in};
-ghost use Rattle.session_core.specs.Held.{IsHeld, HasAnswered, IsAsBefore, state_of, Answers, AnswersRefused, AnswersMember, KeepsAll, KeepsAllMember};
+ghost use Rattle.session_core.specs.Held.{IsHeld, HasAnswered, IsAsBefore, state_of, Answers, AnswersRefused, AnswersMember, KeepsAll, KeepsAllMember, delta_of};
 ghost use Rattle.session_core.specs.Session.{told};
 
 use crate::clients::is_in;
@@ -35,8 +35,7 @@ pub(crate) struct Edit {
 impl Held {
     /// Edits a cell's source.
     pub(crate) fn edit(&mut self, by: u32, edit: Edit) -> Result<Reply, AllocError>
-        ensures ok { Answers by (Client edit.client
-            (IsDelta edit.cell edit.base edit.delta)) self.old self.new result }
+        ensures ok { Answers by (Client edit.client (delta_of edit)) self.old self.new result }
         ensures err { KeepsAll self.old self.new result }
     {
         if !is_in(edit.client, self.joined.as_slice()) {
@@ -51,8 +50,7 @@ impl Held {
     /// Edits the source of the cell whose log stands at a place, for a client that has joined.
     fn edit_at(&mut self, by: u32, at: usize, edit: Edit) -> Result<Reply, AllocError>
         requires { Some at ≡ place_in edit.cell self.old.logs.items }
-        ensures ok { AnswersMember by edit.client
-            (IsDelta edit.cell edit.base edit.delta) self.old self.new result }
+        ensures ok { AnswersMember by edit.client (delta_of edit) self.old self.new result }
         ensures err { KeepsAllMember edit.client self.old self.new result }
     {
         match self.logs[at].log.moved(self.alloc, edit.base, &edit.delta) {
@@ -71,8 +69,8 @@ impl Held {
             → is_in edit.client self.old.joined.items ≡ true
             → found edit.cell (cells self.old.book) ≡ Some c
             → IsMovedIn (state_of n0 self.old) edit.cell c edit.base edit.delta moved
-            → IfOk result (HasAnswered n0 by (Client edit.client
-            (IsDelta edit.cell edit.base edit.delta)) self.old self.new) }
+            → IfOk result
+            (HasAnswered n0 by (Client edit.client (delta_of edit)) self.old self.new) }
         ensures err { (n0 : Parts) (c : Cell) → IsHeld n0 self.old
             → is_in edit.client self.old.joined.items ≡ true
             → found edit.cell (cells self.old.book) ≡ Some c
@@ -110,8 +108,8 @@ impl Held {
 
     /// Refuses a client's delta.
     fn refuse_edit(&mut self, by: u32, edit: Edit, why: Refusal) -> Result<Reply, AllocError>
-        ensures ok { AnswersRefused by (Client edit.client
-            (IsDelta edit.cell edit.base edit.delta)) why self.old self.new result }
+        ensures ok { AnswersRefused by (Client edit.client (delta_of edit)) why self.old self.new
+            result }
         ensures err { KeepsAll self.old self.new result }
     {
         let Edit {

@@ -13,7 +13,8 @@ use Rattle.session_ops.specs.State.{State, Job, Legal, opening, state, state_fro
 use Rattle.session_ops.specs.Born.{TouchesMadeCells}
 use Rattle.world.specs.Applied.{applied_by, applied_in}
 use Rattle.world.proofs.Changing.{IsGrown, call-grown, live-below}
-use Rattle.world.proofs.Moving.{IsTaken, applied-taken, from-grown, from-taken}
+use Rattle.session_ops.proofs.Deeds.{IsTaken, applied-taken}
+use Rattle.world.proofs.Moving.{applied-none, from-grown, from-taken}
 
 call-unborn : (s : State) (call : Call) (answer : Reply) (k : ℕ) → IsNotebook s.book → answer ≡ reply s call → s.book.next_cell ≤ k → applied_by k call answer ≡ []
 call-unborn s (ByClient n (Delta j base d)) (Applied rev x) k h e le =
@@ -23,7 +24,7 @@ call-unborn s (ByClient n (Delta j base d)) (Applied rev x) k h e le =
     as (λ b. (j == k) ≡ b → (if b then x ∷ [] else []) ≡ [])
     [ true ↦ λ t. let same : j ≡ k = eqb-true j k t in absurd (omega (arith, lt, le, same)) | false ↦ λ t. refl ]
     refl
-call-unborn s call answer k h e le = refl
+call-unborn s call answer k h e le = applied-none call answer k refl
 
 from-unborn : (s : State) (js : List Job) (es : List Entry) (k : ℕ) → IsNotebook s.book → HasReplies s js es → (state_from s es).book.next_cell ≤ k → applied_in k es ≡ []
 from-unborn s js [] k h r le = refl

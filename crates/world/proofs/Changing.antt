@@ -20,10 +20,11 @@ use Rattle.session_ops.specs.declared.entry.Call.TheVariants.{Client as ByClient
 use Rattle.session_ops.specs.declared.entry.Refusal.TheVariants.{NotJoined}
 use Rattle.session_ops.specs.declared.entry.Reply.{Reply}
 use Rattle.session_ops.specs.declared.entry.Reply.TheVariants.{Applied, Started, Stored, Refused}
-use Rattle.session_ops.specs.State.{State, reply, change_reply, attempt_reply, after_call, after_op, once_made, once_changed, moved_source}
+use Rattle.session_ops.specs.Deeds.{changes_if, deed, moved_source}
+use Rattle.session_ops.specs.State.{State, reply, change_reply, attempt_reply, after_call, after_op, once_made, once_done}
 use Rattle.session_ops.specs.Numbers.{is_in}
 use Rattle.session_ops.specs.Structure.{change_of}
-use Rattle.client_sync.specs.Client.{Client, Pending, pending_of, without, without_cells, gone_by, with_op, with_call}
+use Rattle.client_sync.specs.Client.{Client, Pending, pending_of, without, without_cells, with_deed}
 use Rattle.notebook.proofs.Keeping.{change-keeps, change-counts}
 use Rattle.notebook.proofs.Living.{change-found}
 use Rattle.world.proofs.Pendings.{without-same, without-other}
@@ -71,15 +72,15 @@ made-number n (note.RestoreCell cell section index) k c e = restored-number n.ne
 made-number n asked k c e = absurd (cc e)
 
 -- what a change of the structure leaves as it is
-pub once-taken : (s : State) (o : Option Change) → (once_changed s o).taken ≡ s.taken
+pub once-taken : (s : State) (o : Option Change) → (once_done s (changes_if o)).taken ≡ s.taken
 once-taken s None = refl
 once-taken s (Some c) = elim (change s.book c) as (λ a. (once_made s a).taken ≡ s.taken) [ Makes n made ↦ refl | Fails why ↦ refl ]
 
-pub once-known : (s : State) (o : Option Change) → (once_changed s o).known ≡ s.known
+pub once-known : (s : State) (o : Option Change) → (once_done s (changes_if o)).known ≡ s.known
 once-known s None = refl
 once-known s (Some c) = elim (change s.book c) as (λ a. (once_made s a).known ≡ s.known) [ Makes n made ↦ refl | Fails why ↦ refl ]
 
-pub once-joined : (s : State) (o : Option Change) → (once_changed s o).joined ≡ s.joined
+pub once-joined : (s : State) (o : Option Change) → (once_done s (changes_if o)).joined ≡ s.joined
 once-joined s None = refl
 once-joined s (Some c) = elim (change s.book c) as (λ a. (once_made s a).joined ≡ s.joined) [ Makes n made ↦ refl | Fails why ↦ refl ]
 
@@ -91,7 +92,7 @@ made-grown : (s : State) (c : Change) (a : Attempt) → IsNotebook s.book → ch
 made-grown s c (Makes n made) h e = (change-keeps s.book n c made h e, (change-counts s.book n c made h e).0)
 made-grown s c (Fails why) h e = (h, omega arith)
 
-once-grown : (s : State) (o : Option Change) → IsNotebook s.book → IsGrown s.book (once_changed s o).book
+once-grown : (s : State) (o : Option Change) → IsNotebook s.book → IsGrown s.book (once_done s (changes_if o)).book
 once-grown s None h = (h, omega arith)
 once-grown s (Some c) h = made-grown s c (change s.book c) h refl
 
@@ -202,16 +203,16 @@ change-passing n asked m ps k h =
     refl
     all
 
-once-passing : (s : State) (o : Option Change) (ps : List Pending) (k : ℕ) → IsNotebook s.book → HasMadeIf s.book o → IsPassing s.book (once_changed s o).book ps (without_cells (gone_by s.book o) ps) k
-once-passing s None ps k h m = Stays refl refl
-once-passing s (Some asked) ps k h m =
-    subst (λ a. IsPassing s.book (once_made s a).book ps (without_cells (gone_cells s.book asked) ps) k) (sym m.makes) (change-passing s.book asked m ps k h)
+once-passing : (s : State) (o : Option Change) (c : Client) (k : ℕ) → IsNotebook s.book → HasMadeIf s.book o → IsPassing s.book (once_done s (changes_if o)).book c.pending (with_deed s.book c (changes_if o)).pending k
+once-passing s None c k h m = Stays refl refl
+once-passing s (Some asked) c k h m =
+    subst (λ a. IsPassing s.book (once_made s a).book c.pending (without_cells (gone_cells s.book asked) c.pending) k) (sym m.makes) (change-passing s.book asked m c.pending k h)
 
 abbrev pub is_applied_op : Op → Reply → Bool
 is_applied_op (Delta cell base d) (Applied rev x) = true
 is_applied_op op answer = false
 
-op-passing : (s : State) (n : ℕ) (op : Op) (answer : Reply) (c : Client) (k : ℕ) → IsNotebook s.book → answer ≡ reply s (ByClient n op) → is_applied_op op answer ≡ false → IsPassing s.book (after_op s n op answer).book c.pending (with_op s c n op answer).pending k
+op-passing : (s : State) (n : ℕ) (op : Op) (answer : Reply) (c : Client) (k : ℕ) → IsNotebook s.book → answer ≡ reply s (ByClient n op) → is_applied_op op answer ≡ false → IsPassing s.book (after_op s n op answer).book c.pending (with_deed s.book c (deed (ByClient n op) answer)).pending k
 op-passing s n op (Refused why) c k h e other = Stays refl refl
 op-passing s n Join answer c k h e other = Stays refl refl
 op-passing s n Leave answer c k h e other = Stays refl refl
@@ -219,13 +220,13 @@ op-passing s n (Delta j base d) (Applied rev x) c k h e other = absurd (cc other
 op-passing s n (Report j rev) answer c k h e other = Stays refl refl
 op-passing s n (Queue j) answer c k h e other = Stays refl refl
 op-passing s n (Cancel j) answer c k h e other = Stays refl refl
-op-passing s n op answer c k h e other = once-passing s (change_of op) c.pending k h (made-from s n op answer (change_of op) refl e refl)
+op-passing s n op answer c k h e other = once-passing s (change_of op) c k h (made-from s n op answer (change_of op) refl e refl)
 
 abbrev pub is_applied : Call → Reply → Bool
 is_applied (ByClient n op) answer = is_applied_op op answer
 is_applied call answer = false
 
-pub call-passing : (s : State) (call : Call) (answer : Reply) (c : Client) (k : ℕ) → IsNotebook s.book → answer ≡ reply s call → is_applied call answer ≡ false → IsPassing s.book (after_call s call answer).book c.pending (with_call s c call answer).pending k
+pub call-passing : (s : State) (call : Call) (answer : Reply) (c : Client) (k : ℕ) → IsNotebook s.book → answer ≡ reply s call → is_applied call answer ≡ false → IsPassing s.book (after_call s call answer).book c.pending (with_deed s.book c (deed call answer)).pending k
 call-passing s (ByClient n op) answer c k h e other = op-passing s n op answer c k h e other
 call-passing s (Start lane) (Started eval cell) c k h e other = Stays refl refl
 call-passing s (Respond eval shown) (Stored i) c k h e other = Stays refl refl

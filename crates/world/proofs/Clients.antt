@@ -16,10 +16,13 @@ use Rattle.session_ops.specs.declared.entry.Call.TheVariants.{Client as ByClient
 use Rattle.session_ops.specs.declared.entry.Reply.{Reply}
 use Rattle.session_ops.specs.declared.entry.Reply.TheVariants.{Applied, Refused}
 use Rattle.session_ops.specs.declared.entry.Entry.{Entry}
+use Rattle.session_ops.specs.Structure.{change_of}
+use Rattle.session_ops.specs.Deeds.{deed}
 use Rattle.session_ops.specs.State.{State, Misfit, misfit, revision}
 use Rattle.session_ops.specs.Numbers.{is_in}
-use Rattle.client_sync.specs.Client.{Client, Pending, Edited, Done, NoCell, EditTooLong, Unfit, delivered, held, edited, edited_cell, with_fitting, with_edit, with_report, with_message, reported, pending_of, all_moved, with_own, with_op, with_call, reposted, without_client, received_entry, client_of, put_client}
+use Rattle.client_sync.specs.Client.{Client, Pending, Edited, Done, NoCell, EditTooLong, Unfit, delivered, held, edited, edited_cell, with_fitting, with_edit, with_report, with_message, reported, pending_of, all_moved, with_own, with_deed, reposted, without_client, received_entry, client_of, put_client}
 use Rattle.world.specs.Claims.{number_of}
+use Rattle.world.proofs.Quiet.{quiet-number, quiet-seen}
 
 -- what all are, all are after one was put in its place
 pub put-all : (P : Client → Type 0) (c : Client) (cs : List Client) → P c → AllByRecursion P cs → AllByRecursion P (put_client c cs)
@@ -117,15 +120,15 @@ own-seen : (c : Client) (cell rev : ℕ) (o : Option Pending) → (with_own c ce
 own-seen c cell rev None = refl
 own-seen c cell rev (Some p) = reposted-seen c cell rev p.buffer
 
-op-seen : (s : State) (c : Client) (n : ℕ) (op : Op) (answer : Reply) → (with_op s c n op answer).seen ≡ c.seen
+op-seen : (s : State) (c : Client) (n : ℕ) (op : Op) (answer : Reply) → (with_deed s.book c (deed (ByClient n op) answer)).seen ≡ c.seen
 op-seen s c n op (Refused why) = refl
 op-seen s c n (Delta cell base d) (Applied rev x) =
     elim (n == c.number)
     as (λ b. (if b then with_own c cell rev (pending_of cell c.pending) else record c { pending = all_moved cell x c.pending }).seen ≡ c.seen)
     [ true ↦ own-seen c cell rev (pending_of cell c.pending) | false ↦ refl ]
-op-seen s c n op answer = refl
+op-seen s c n op answer = quiet-seen s.book c (change_of op)
 
-call-seen : (s : State) (c : Client) (call : Call) (answer : Reply) → (with_call s c call answer).seen ≡ c.seen
+call-seen : (s : State) (c : Client) (call : Call) (answer : Reply) → (with_deed s.book c (deed call answer)).seen ≡ c.seen
 call-seen s c (ByClient n op) answer = op-seen s c n op answer
 call-seen s c call answer = refl
 
@@ -142,15 +145,15 @@ own-number : (c : Client) (cell rev : ℕ) (o : Option Pending) → (with_own c 
 own-number c cell rev None = refl
 own-number c cell rev (Some p) = reposted-number c cell rev p.buffer
 
-op-number : (s : State) (c : Client) (n : ℕ) (op : Op) (answer : Reply) → (with_op s c n op answer).number ≡ c.number
+op-number : (s : State) (c : Client) (n : ℕ) (op : Op) (answer : Reply) → (with_deed s.book c (deed (ByClient n op) answer)).number ≡ c.number
 op-number s c n op (Refused why) = refl
 op-number s c n (Delta cell base d) (Applied rev x) =
     elim (n == c.number)
     as (λ b. (if b then with_own c cell rev (pending_of cell c.pending) else record c { pending = all_moved cell x c.pending }).number ≡ c.number)
     [ true ↦ own-number c cell rev (pending_of cell c.pending) | false ↦ refl ]
-op-number s c n op answer = refl
+op-number s c n op answer = quiet-number s.book c (change_of op)
 
-pub call-number : (s : State) (c : Client) (call : Call) (answer : Reply) → (with_call s c call answer).number ≡ c.number
+pub call-number : (s : State) (c : Client) (call : Call) (answer : Reply) → (with_deed s.book c (deed call answer)).number ≡ c.number
 call-number s c (ByClient n op) answer = op-number s c n op answer
 call-number s c call answer = refl
 

@@ -23,7 +23,8 @@ use Rattle.session_ops.specs.Structure.{is_postable}
 use Rattle.world.specs.Applied.{HasNotLeft}
 use Rattle.client_sync.specs.Fits.{HasSource, FitsHere}
 use Rattle.world.specs.Waiting.{messages_for, IsKeptLive, IsKept, HasLived, HasNoPassage, IsHonest}
-use Rattle.world.proofs.Moving.{found-with, found-number, one-source, fits-from}
+use Rattle.session_ops.proofs.Live.{found-number}
+use Rattle.world.proofs.Moving.{found-with, one-source, fits-from}
 use Rattle.world.proofs.Keeping.{kept-ops, live-from, live-kept}
 use Rattle.world.proofs.Outboxes.{here-lived, lived-added, edit-of, message-honest, kept-reported, report-of, postable-silent, postable-stays, passage-added}
 use Rattle.world.proofs.Pendings.{pending-added, pending-beside, messages-append, edit-beside}

@@ -18,13 +18,15 @@ use Rattle.session_ops.specs.declared.entry.Refusal.TheVariants.{NotJoined, TooN
 use Rattle.session_ops.specs.declared.entry.Reply.{Reply}
 use Rattle.session_ops.specs.declared.entry.Reply.TheVariants.{Accepted, Applied, Started, Stored, Refused}
 use Rattle.session_ops.specs.declared.entry.Entry.{Entry}
-use Rattle.session_ops.specs.State.{State, Job, Known, Legal, opening, state, state_from, after, after_call, after_op, once_changed, reply, report_reply, revision, floor, least_floor, least_among, least, knows_all, is_of_other, HasReplies, jobs_after}
+use Rattle.session_ops.specs.Deeds.{changes_if}
+use Rattle.session_ops.specs.State.{State, Job, Known, Legal, opening, state, state_from, after, after_call, after_op, once_done, reply, report_reply, revision, floor, least_floor, least_among, least, knows_all, is_of_other, HasReplies, jobs_after}
 use Rattle.session_ops.specs.Structure.{change_of, is_postable}
 use Rattle.session_ops.specs.Numbers.{is_in, without_number}
 use Rattle.session_ops.proofs.Lists.{all-append, all-kept, all-weaker, in-more}
 use Rattle.world.specs.Applied.{applied_by, is_own_call, is_leaving, HasNotLeft}
 use Rattle.world.proofs.Changing.{call-grown, live-below, below-front, once-known, once-joined, is_refused}
-use Rattle.world.proofs.Moving.{IsTaken, applied-taken, call-taken}
+use Rattle.session_ops.proofs.Deeds.{IsTaken, applied-taken}
+use Rattle.world.proofs.Moving.{call-taken}
 
 -- one who has joined and doesn't leave is still there
 without-kept : (m n : ℕ) (ns : List ℕ) → (m == n) ≡ false → is_in n (without_number m ns) ≡ is_in n ns
@@ -127,7 +129,7 @@ op-known s n (Report j rev) answer h e well =
 op-known s n (Queue j) answer h e well = all-up s (ByClient n (Queue j)) answer h well
 op-known s n (Cancel j) answer h e well = all-up s (ByClient n (Cancel j)) answer h well
 op-known s n op answer h e well =
-    subst (AllByRecursion (IsKnownUp (once_changed s (change_of op)))) (sym (once-known s (change_of op))) (all-up s (ByClient n op) answer h well)
+    subst (AllByRecursion (IsKnownUp (once_done s (changes_if (change_of op))))) (sym (once-known s (change_of op))) (all-up s (ByClient n op) answer h well)
 
 call-known : (s : State) (call : Call) (answer : Reply) → IsNotebook s.book → answer ≡ reply s call → IsKnownWell s → AllByRecursion (IsKnownUp (after_call s call answer)) (after_call s call answer).known
 call-known s (ByClient n op) answer h e well = op-known s n op answer h e well

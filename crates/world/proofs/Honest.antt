@@ -17,12 +17,14 @@ use Rattle.session_ops.specs.declared.entry.Refusal.TheVariants.{AlreadyJoined}
 use Rattle.session_ops.specs.declared.entry.Reply.{Reply}
 use Rattle.session_ops.specs.declared.entry.Reply.TheVariants.{Accepted, Applied, Refused}
 use Rattle.session_ops.specs.declared.entry.Entry.{Entry}
+use Rattle.session_ops.specs.Structure.{change_of}
+use Rattle.session_ops.specs.Deeds.{deed}
 use Rattle.session_ops.specs.State.{State, state, state_from, opening, after, reply, HasReplies, Legal, jobs_from}
 use Rattle.session_ops.specs.Structure.{is_postable}
 use Rattle.session_ops.specs.Numbers.{is_in}
 use Rattle.session_ops.proofs.Growing.{state-append}
 use Rattle.session_ops.proofs.Lists.{all-append}
-use Rattle.client_sync.specs.Client.{Client, Pending, Edited, Done, NoCell as NoSuchCell, EditTooLong, Unfit, edited, reported, received_entry, with_call, with_op, with_own, reposted, joined_client, with_message, pending_of, all_moved, client_of}
+use Rattle.client_sync.specs.Client.{Client, Pending, Edited, Done, NoCell as NoSuchCell, EditTooLong, Unfit, edited, reported, received_entry, with_deed, with_own, reposted, joined_client, with_message, pending_of, all_moved, client_of}
 use Rattle.world.specs.declared.event.Event.{Event}
 use Rattle.world.specs.declared.event.Event.TheVariants.{Join, Leave, Edit, Post, Report, Take, Receive, RawJoin, Raw}
 use Rattle.world.specs.World.{World, first_world, next_entry, called, with_client, with_joined, with_edited, posted, with_reported, taken, delivered_next, if_held, raw, happens, after_events, run}
@@ -31,7 +33,8 @@ use Rattle.world.specs.Applied.{is_leaving, HasNotLeft}
 use Rattle.world.specs.Waiting.{Message, message_in, messages_for, IsKept, HasLived, HasNoPassage, IsHonest, AreHonest, WasDeleted, IsFairAnswer, AreFair}
 use Rattle.world.proofs.Clients.{put-all, client-is, received-seen, received-number, all-from-all, all-absent, all-without, put-others}
 use Rattle.world.proofs.Standing.{AreQuietlyThere, event-whole, call-legal, join-since, rest-after, stays-by, stays-other, whole-agree}
-use Rattle.world.proofs.Moving.{IsGone, from-more, from-grown, rest-replies, call-gone, IsTaken, applied-taken}
+use Rattle.session_ops.proofs.Deeds.{IsTaken, applied-taken}
+use Rattle.world.proofs.Moving.{IsGone, from-more, from-grown, rest-replies, call-gone}
 use Rattle.world.proofs.Floors.{IsAside, from-stays, call-stays, known-well, floor-up, floor-unborn, stranger-call, refused-aside, evaluator-call}
 use Rattle.world.proofs.Keeping.{IsOthers, kept-more}
 use Rattle.world.proofs.Outboxes.{here-lived, lived-more, lived-below, lived-added, edit-of, passage-added}
@@ -39,6 +42,7 @@ use Rattle.world.proofs.Receiving.{IsEntry, call-received}
 use Rattle.world.proofs.Editing.{edited-honest, reported-honest, posted-honest}
 use Rattle.world.proofs.Taking.{IsDeltaAnswer, IsReportAnswer, delta-answered, report-answered, edit-first, report-first, own-taken}
 use Rattle.world.proofs.Heard.{member-heard, whole-heard}
+use Rattle.world.proofs.Quiet.{quiet-outbox}
 
 -- the state at the history's end, from the client's place on
 pub at-end : (n0 : Parts) (h : List Entry) (c : Client) → (honest : IsHonest n0 h c) → state n0 h ≡ state_from (state n0 c.seen) honest.later
@@ -252,7 +256,7 @@ own-outbox : (n0 : Parts) (c : Client) (j rev k : ℕ) (o : Option Pending) → 
 own-outbox n0 c j rev k None l f ne = f ne
 own-outbox n0 c j rev k (Some p) l f ne = reposted-lived n0 c j rev k p.buffer l f ne
 
-op-lived : (n0 : Parts) (s : State) (c : Client) (n k : ℕ) (op : Op) (answer : Reply) → ((j : ℕ) (own : Cell) → found j (cells s.book) ≡ Some own → HasLived n0 c.seen j) → answer ≡ reply s (ByClient n op) → (messages_for k c.outbox ≢ [] → HasLived n0 c.seen k) → messages_for k (with_op s c n op answer).outbox ≢ [] → HasLived n0 c.seen k
+op-lived : (n0 : Parts) (s : State) (c : Client) (n k : ℕ) (op : Op) (answer : Reply) → ((j : ℕ) (own : Cell) → found j (cells s.book) ≡ Some own → HasLived n0 c.seen j) → answer ≡ reply s (ByClient n op) → (messages_for k c.outbox ≢ [] → HasLived n0 c.seen k) → messages_for k (with_deed s.book c (deed (ByClient n op) answer)).outbox ≢ [] → HasLived n0 c.seen k
 op-lived n0 s c n k op (Refused why) here e f = f
 op-lived n0 s c n k (Delta j base d) (Applied rev x) here e f =
     elim (n == c.number)
@@ -260,9 +264,9 @@ op-lived n0 s c n k (Delta j base d) (Applied rev x) here e f =
       | true ↦ λ ne. let is : IsTaken s j rev x = applied-taken s n j base rev d x (sym e) in own-outbox n0 c j rev k (pending_of j c.pending) (here j is.own is.there) f ne
       | false ↦ f
     ]
-op-lived n0 s c n k op answer here e f = f
+op-lived n0 s c n k op answer here e f = subst (λ ops. messages_for k ops ≢ [] → HasLived n0 c.seen k) (sym (quiet-outbox s.book c (change_of op))) f
 
-call-lived : (n0 : Parts) (s : State) (c : Client) (k : ℕ) (call : Call) (answer : Reply) → ((j : ℕ) (own : Cell) → found j (cells s.book) ≡ Some own → HasLived n0 c.seen j) → answer ≡ reply s call → (messages_for k c.outbox ≢ [] → HasLived n0 c.seen k) → messages_for k (with_call s c call answer).outbox ≢ [] → HasLived n0 c.seen k
+call-lived : (n0 : Parts) (s : State) (c : Client) (k : ℕ) (call : Call) (answer : Reply) → ((j : ℕ) (own : Cell) → found j (cells s.book) ≡ Some own → HasLived n0 c.seen j) → answer ≡ reply s call → (messages_for k c.outbox ≢ [] → HasLived n0 c.seen k) → messages_for k (with_deed s.book c (deed call answer)).outbox ≢ [] → HasLived n0 c.seen k
 call-lived n0 s c k (ByClient n op) answer here e f = op-lived n0 s c n k op answer here e f
 call-lived n0 s c k call answer here e f = f
 
@@ -274,15 +278,15 @@ own-inside : (c : Client) (j rev : ℕ) (o : Option Pending) → HasNoPassage c.
 own-inside c j rev None all = all
 own-inside c j rev (Some p) all = reposted-inside c j rev p.buffer all
 
-op-inside : (s : State) (c : Client) (n : ℕ) (op : Op) (answer : Reply) → HasNoPassage c.outbox → HasNoPassage (with_op s c n op answer).outbox
+op-inside : (s : State) (c : Client) (n : ℕ) (op : Op) (answer : Reply) → HasNoPassage c.outbox → HasNoPassage (with_deed s.book c (deed (ByClient n op) answer)).outbox
 op-inside s c n op (Refused why) all = all
 op-inside s c n (Delta j base d) (Applied rev x) all =
     elim (n == c.number)
     as (λ b. HasNoPassage (if b then with_own c j rev (pending_of j c.pending) else record c { pending = all_moved j x c.pending }).outbox)
     [ true ↦ own-inside c j rev (pending_of j c.pending) all | false ↦ all ]
-op-inside s c n op answer all = all
+op-inside s c n op answer all = subst HasNoPassage (sym (quiet-outbox s.book c (change_of op))) all
 
-call-inside : (s : State) (c : Client) (call : Call) (answer : Reply) → HasNoPassage c.outbox → HasNoPassage (with_call s c call answer).outbox
+call-inside : (s : State) (c : Client) (call : Call) (answer : Reply) → HasNoPassage c.outbox → HasNoPassage (with_deed s.book c (deed call answer)).outbox
 call-inside s c (ByClient n op) answer all = op-inside s c n op answer all
 call-inside s c call answer all = all
 

@@ -1,4 +1,3 @@
-mod Worked
 pub mod Apart
 pub mod Born
 pub mod Changing
@@ -16,8 +15,10 @@ pub mod Next
 pub mod Outboxes
 pub mod Pendings
 pub mod Playing
+mod Quiet
 pub mod Receiving
 pub mod Sample
 pub mod Standing
 pub mod Taking
 pub mod Texts
+mod Worked

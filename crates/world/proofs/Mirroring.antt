@@ -1,17 +1,17 @@
 -- Clients in memory, one by one in the order of those that they stand for.
-use Rattle.std.proofs.Common.{◌≡◌, ℕ, zero, suc, ◌+◌, ◌<◌, ◌≤◌, ◌==◌, true, false, if◌then◌else◌, List, [], ◌∷◌, ◌++◌, length, take, get_or, set, map, Some, None, refl, sym, ap, subst, ◌∙◌, arith, add-one}
+use Rattle.std.proofs.Common.{◌≡◌, ◌≢◌, ℕ, zero, suc, ◌+◌, ◌<◌, ◌≤◌, ◌==◌, true, false, if◌then◌else◌, List, [], ◌∷◌, ◌++◌, length, take, drop, get_or, set, map, ne_eqb, Option, Some, None, refl, sym, ap, subst, ◌∙◌, arith, add-one}
 use Rattle.std.specs.List.{remove}
 use Rattle.std.proofs.lemmas.Bool.{eqb-true, eq-eqb}
-use Rattle.std.proofs.lemmas.List.{take_all}
+use Rattle.std.proofs.lemmas.List.{drop_more, take_all}
 use Rattle.notebook.specs.declared.parts.Parts.{Parts}
 use Rattle.session_ops.specs.Numbers.{is_in}
 use Rattle.session_ops.proofs.Members.{in-here, in-later}
 use Rattle.client_sync.specs.Client.{Client as Holder, client_of, put_client, without_client}
 use Rattle.client_sync.specs.declared.client.Client.{Client}
-use Rattle.client_sync.specs.Stands.{Mirrors}
+use Rattle.client_sync.specs.Stands.{Mirrors, number_in}
 use Rattle.world.specs.Claims.{number_of}
 use Rattle.world.specs.Sound.{AreApart}
-use Rattle.world.specs.Plays.{AreMirrors, IsHolderAt}
+use Rattle.world.specs.Plays.{AreMirrors, IsHolderAt, later, place_in}
 
 -- one more at the end
 pub mirrors-append : (n0 : Parts) (cs : List Client) (ms : List Holder) (c : Client) (m : Holder) → AreMirrors n0 cs ms → Mirrors n0 c m → AreMirrors n0 (cs ++ c ∷ []) (ms ++ m ∷ [])
@@ -174,3 +174,14 @@ mirrors-cut n0 (y ∷ cs) (f ∷ front) m back all = (all.0, mirrors-cut n0 cs f
 
 pub mirrors-removed : (n0 : Parts) (cs : List Client) (ms : List Holder) (n at : ℕ) → AreMirrors n0 cs ms → (p : IsHolderAt n ms at) → AreMirrors n0 (remove cs at) (p.front ++ p.back)
 mirrors-removed n0 cs ms n at all p = subst (λ i. AreMirrors n0 (remove cs i) (p.front ++ p.back)) (sym p.place) (mirrors-cut n0 cs p.front p.here p.back (subst (AreMirrors n0 cs) p.parts all))
+
+-- a client was passed that has another number
+later-later : (i : ℕ) (o : Option ℕ) → later i (later 1 o) ≡ later (i + 1) o
+later-later i None = refl
+later-later i (Some k) = let e : i + (1 + k) ≡ (i + 1) + k = omega arith in ap Some e
+
+pub place-passed : (n : ℕ) (cs : List Client) (i : ℕ) (c : Client) → i < length cs → c ≡ get_or cs i c → number_in c ≢ n → later i (place_in n (map number_in (drop i cs))) ≡ later (i + 1) (place_in n (map number_in (drop (i + 1) cs)))
+place-passed n cs i c lt is other =
+    let rest : Option ℕ = place_in n (map number_in (drop (i + 1) cs)) in
+    ap (λ ys. later i (place_in n (map number_in ys))) (drop_more cs i c lt ∙ ap (λ y. y ∷ drop (i + 1) cs) (sym is))
+    ∙ (ap (λ b. later i (if b then Some 0 else later 1 rest)) (ne_eqb (number_in c) n other) ∙ later-later i rest)

@@ -1,6 +1,6 @@
 -- What entries make of a cell's source and its deltas.
-use Rattle.std.proofs.Common.{◌≡◌, ℕ, ◌+◌, ◌<◌, ◌≤◌, ◌==◌, Bool, true, false, if◌then◌else◌, List, [], ◌∷◌, ◌++◌, length, drop, Option, Some, None, refl, sym, ap, subst, ◌∙◌, arith, append_assoc, inl, inr}
-use Rattle.std.specs.Prelude.{◌⊎◌, nat_lt, nat_le}
+use Rattle.std.proofs.Common.{◌≡◌, ℕ, ◌+◌, ◌<◌, ◌≤◌, ◌==◌, Bool, true, false, if◌then◌else◌, List, [], ◌∷◌, ◌++◌, length, Option, Some, None, refl, sym, ap, subst, ◌∙◌, arith, append_assoc, inl, inr}
+use Rattle.std.specs.Prelude.{◌⊎◌, nat_le}
 use Rattle.std.specs.Option.{option_map}
 use Rattle.std.proofs.lemmas.Bool.{eqb-true}
 use Rattle.std.proofs.lemmas.Bool.Decides.{nat_tests}
@@ -20,17 +20,19 @@ use Rattle.session_ops.specs.declared.entry.Op.TheVariants.{Join, Leave, Delta, 
 use Rattle.session_ops.specs.declared.entry.Call.{Call}
 use Rattle.session_ops.specs.declared.entry.Call.TheVariants.{Client as ByClient, Start, Respond}
 use Rattle.session_ops.specs.declared.entry.Refusal.{Refusal}
-use Rattle.session_ops.specs.declared.entry.Refusal.TheVariants.{NotJoined, TooNew, TooOld}
 use Rattle.session_ops.specs.declared.entry.Reply.{Reply}
 use Rattle.session_ops.specs.declared.entry.Reply.TheVariants.{Applied, Started, Stored, Refused}
 use Rattle.session_ops.specs.declared.entry.Entry.{Entry}
-use Rattle.session_ops.specs.State.{State, Job, Taken, Misfit, Past, Splits, after, after_call, after_op, state_from, taken_by, revision, least, misfit, split_misfit, moved_source, reply, delta_reply, judged_by, HasReplies, jobs_from, jobs_after}
+use Rattle.session_ops.specs.Deeds.{moved_source}
+use Rattle.session_ops.specs.State.{State, Job, Taken, Past, after, after_call, after_op, state_from, taken_by, revision, misfit, split_misfit, reply, HasReplies, jobs_from, jobs_after}
 use Rattle.session_ops.specs.Structure.{change_of}
-use Rattle.session_ops.specs.Numbers.{is_in}
 use Rattle.client_sync.specs.Client.{Pending, joined_client}
 use Rattle.client_sync.specs.Fits.{HasSource}
+use Rattle.session_ops.proofs.Deeds.{IsTaken, applied-taken}
+use Rattle.session_ops.proofs.Live.{found-number}
 use Rattle.world.specs.Applied.{applied_by, applied_in, is_own_call, text_after_each, FitInTurn}
 use Rattle.world.proofs.Changing.{IsPassing, Stays, Goes, Begins, IsGrown, live-below, call-passing, call-grown, is_applied, once-taken}
+use Rattle.world.proofs.Quiet.{quiet-edits, quiet-own}
 
 -- a delta fits a text where nothing keeps it from it
 split-none : (o : Option ℕ) → split_misfit o ≡ None → o ≡ None
@@ -63,16 +65,6 @@ over-append i (x ∷ xs) ys = over-append (transformed false x i) xs ys
 pub found-with : (f : Cell → List ℕ) (k : ℕ) (c : Cell) (n : Parts) → found k (cells n) ≡ Some c → found k (cells (resourced f n)) ≡ Some (resourced_cell f c)
 found-with f k c n e = found-resourced f k n ∙ ap (option_map (resourced_cell f)) e
 
--- a cell that is found has the number
-pub found-number : (k : ℕ) (cs : List Cell) (c : Cell) → found k cs ≡ Some c → c.id ≡ k
-found-number k [] c e = absurd (cc e)
-found-number k (d ∷ cs) c e =
-    elim (d.id == k)
-    as (λ b. (d.id == k) ≡ b → (if b then Some d else found k cs) ≡ Some c → c.id ≡ k)
-    [ true ↦ λ t h. let same : d ≡ c = cc h in subst (λ x. x.id ≡ k) same (eqb-true d.id k t) | false ↦ λ t h. found-number k cs c h ]
-    refl
-    e
-
 moved-one : (j k : ℕ) (x : List Step) (c : Cell) → c.id ≡ k → moved_source j x c ≡ text_after_each c.source (if j == k then x ∷ [] else [])
 moved-one j k x c e =
     elim (j == k)
@@ -90,11 +82,17 @@ pub record IsGone (n : Parts) (k : ℕ) : Type 0 where
 -- what is so of calls that apply no delta
 pub applied-none : (call : Call) (answer : Reply) (k : ℕ) → is_applied call answer ≡ false → applied_by k call answer ≡ []
 applied-none (ByClient n (Delta j base d)) (Applied rev x) k e = absurd (cc e)
-applied-none call answer k e = refl
+applied-none (ByClient n op) (Refused why) k e = refl
+applied-none (ByClient n op) answer k e = quiet-edits k (change_of op)
+applied-none (Start lane) answer k e = refl
+applied-none (Respond eval shown) answer k e = refl
 
 pub own-none : (call : Call) (answer : Reply) (n k : ℕ) → is_applied call answer ≡ false → is_own_call n k call answer ≡ false
 own-none (ByClient m (Delta j base d)) (Applied rev x) n k e = absurd (cc e)
-own-none call answer n k e = refl
+own-none (ByClient m op) (Refused why) n k e = refl
+own-none (ByClient m op) answer n k e = quiet-own n k (change_of op)
+own-none (Start lane) answer n k e = refl
+own-none (Respond eval shown) answer n k e = refl
 
 -- the deltas that a cell took
 more-of : (b : Bool) (d : List Step) (xs ys : List (List Step)) → (if b then d ∷ (xs ++ ys) else xs ++ ys) ≡ (if b then d ∷ xs else xs) ++ ys
@@ -133,44 +131,7 @@ pub from-taken : (s : State) (es : List Entry) (k : ℕ) → taken_by k (state_f
 from-taken s [] k = sym (append-nil (taken_by k s.taken))
 from-taken s (e ∷ es) k = from-taken (after s e) es k ∙ (ap (λ xs. xs ++ applied_in k es) (after-taken s e k) ∙ append_assoc (taken_by k s.taken) (applied_by k e.call e.reply) (applied_in k es))
 
--- a delta that was applied fitted the cell's source, and its revision is the next one
-pub record IsTaken (s : State) (j rev : ℕ) (x : List Step) : Type 0 where
-  pub own : Cell
-  pub there : found j (cells s.book) ≡ Some own
-  pub fits : misfit x own.source ≡ None
-  pub next : rev ≡ revision s j + 1
-
-judged-taken : (s : State) (j rev : ℕ) (x y : List Step) (c : Cell) (why : Option Misfit) → found j (cells s.book) ≡ Some c → misfit y c.source ≡ why → judged_by (revision s j) y why ≡ Applied rev x → IsTaken s j rev x
-judged-taken s j rev x y c None there fits e =
-    let same : y ≡ x = cc e in
-    let next : revision s j + 1 ≡ rev = cc e in
-    record { own = c; there = there; fits = subst (λ d. misfit d c.source ≡ None) same fits; next = sym next }
-judged-taken s j rev x y c (Some (Past len)) there fits e = absurd (cc e)
-judged-taken s j rev x y c (Some (Splits at)) there fits e = absurd (cc e)
-
-old-taken : (s : State) (j base rev : ℕ) (d x : List Step) (c : Cell) → found j (cells s.book) ≡ Some c → (if nat_lt base (least s j) then Refused (TooOld (least s j)) else (let y : List Step = over d (drop base (taken_by j s.taken)) in judged_by (revision s j) y (misfit y c.source))) ≡ Applied rev x → IsTaken s j rev x
-old-taken s j base rev d x c there e =
-    let y : List Step = over d (drop base (taken_by j s.taken)) in
-    elim (nat_lt base (least s j))
-    as (λ b. (if b then Refused (TooOld (least s j)) else judged_by (revision s j) y (misfit y c.source)) ≡ Applied rev x → IsTaken s j rev x)
-    [ true ↦ λ k. absurd (cc k) | false ↦ λ k. judged-taken s j rev x y c (misfit y c.source) there refl k ]
-    e
-
-cell-taken : (s : State) (j base rev : ℕ) (d x : List Step) (o : Option Cell) → found j (cells s.book) ≡ o → delta_reply s j base d o ≡ Applied rev x → IsTaken s j rev x
-cell-taken s j base rev d x None there e = absurd (cc e)
-cell-taken s j base rev d x (Some c) there e =
-    elim (nat_lt (revision s j) base)
-    as (λ b. (if b then Refused (TooNew (revision s j)) else (if nat_lt base (least s j) then Refused (TooOld (least s j)) else (let y : List Step = over d (drop base (taken_by j s.taken)) in judged_by (revision s j) y (misfit y c.source)))) ≡ Applied rev x → IsTaken s j rev x)
-    [ true ↦ λ k. absurd (cc k) | false ↦ λ k. old-taken s j base rev d x c there k ]
-    e
-
-pub applied-taken : (s : State) (n j base rev : ℕ) (d x : List Step) → reply s (ByClient n (Delta j base d)) ≡ Applied rev x → IsTaken s j rev x
-applied-taken s n j base rev d x e =
-    elim (is_in n s.joined)
-    as (λ b. (if b then delta_reply s j base d (found j (cells s.book)) else Refused NotJoined) ≡ Applied rev x → IsTaken s j rev x)
-    [ true ↦ λ k. cell-taken s j base rev d x (found j (cells s.book)) refl k | false ↦ λ k. absurd (cc k) ]
-    e
-
+-- a cell has one source
 pub one-source : (n : Parts) (k : ℕ) (t : List ℕ) (c : Cell) → HasSource n k t → found k (cells n) ≡ Some c → c.source ≡ t
 one-source n k t c h e = let same : h.own ≡ c = cc (h.there, e) in subst (λ x. x.source ≡ t) same h.source
 
@@ -182,7 +143,7 @@ call-gone-applied s (ByClient n (Delta j base d)) (Applied rev x) k e gone =
     as (λ b. (j == k) ≡ b → (if b then x ∷ [] else []) ≡ [])
     [ true ↦ λ t. let wrong : Some is.own ≡ None = sym is.there ∙ subst (λ i. found i (cells s.book) ≡ None) (sym (eqb-true j k t)) gone.none in absurd (cc wrong) | false ↦ λ t. refl ]
     refl
-call-gone-applied s call answer k e gone = refl
+call-gone-applied s call answer k e gone = applied-none call answer k refl
 
 passed-gone : (s t : State) (ps ps' : List Pending) (k : ℕ) → IsGrown s.book t.book → IsGone s.book k → IsPassing s.book t.book ps ps' k → IsGone t.book k
 passed-gone s t ps ps' k grown gone (Stays e same) = record { none = e ∙ gone.none; below = let lt : k < s.book.next_cell = gone.below in let le : s.book.next_cell ≤ t.book.next_cell = grown.1 in omega (arith, lt, le) }
@@ -266,11 +227,11 @@ call-fits s (ByClient n (Delta j base d)) (Applied rev x) k t h e =
     elim (j == k)
     as (λ b. (j == k) ≡ b → FitInTurn t (if b then x ∷ [] else [])) [
       | true ↦ λ same. let there : found k (cells s.book) ≡ Some is.own = subst (λ i. found i (cells s.book) ≡ Some is.own) (eqb-true j k same) is.there in
-          (fits-from x t (subst (λ u. misfit x u ≡ None) (one-source s.book k t is.own h there) is.fits), tt)
+          (subst (FitsText x) (one-source s.book k t is.own h there) is.fits, tt)
       | false ↦ λ same. tt
     ]
     refl
-call-fits s call answer k t h e = tt
+call-fits s call answer k t h e = subst (FitInTurn t) (sym (applied-none call answer k refl)) tt
 
 turn-append : (t : List ℕ) (xs ys : List (List Step)) → FitInTurn t xs → FitInTurn (text_after_each t xs) ys → FitInTurn t (xs ++ ys)
 turn-append t [] ys a b = b

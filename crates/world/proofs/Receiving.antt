@@ -20,15 +20,20 @@ use Rattle.session_ops.specs.declared.entry.Call.TheVariants.{Client as ByClient
 use Rattle.session_ops.specs.declared.entry.Reply.{Reply}
 use Rattle.session_ops.specs.declared.entry.Reply.TheVariants.{Applied, Refused}
 use Rattle.session_ops.specs.declared.entry.Entry.{Entry}
-use Rattle.session_ops.specs.State.{State, state_from, after, after_call, taken_by, revision, floor, reply, misfit, moved_source}
-use Rattle.client_sync.specs.Client.{Client, Pending, pending_of, all_moved, without, with_own, with_op, with_call, reposted}
+use Rattle.session_ops.specs.Structure.{change_of}
+use Rattle.session_ops.specs.Deeds.{deed, moved_source}
+use Rattle.session_ops.specs.State.{State, state_from, after, after_call, taken_by, revision, floor, reply}
+use Rattle.client_sync.specs.Client.{Client, Pending, pending_of, all_moved, without, with_own, with_deed, reposted}
 use Rattle.client_sync.specs.Fits.{HasSource, FitsHere}
 use Rattle.world.specs.Applied.{applied_by, is_own, is_own_call, text_after_each}
 use Rattle.world.specs.Waiting.{messages_for, AreReports, IsQuiet, IsKeptLive, IsKept}
 use Rattle.world.proofs.Changing.{IsPassing, Stays, call-passing, is_applied, is_applied_op}
-use Rattle.world.proofs.Moving.{IsTaken, applied-taken, one-source, fits-from, found-number, taken-source, grown-revision, applied-none, own-none}
+use Rattle.session_ops.proofs.Deeds.{IsTaken, applied-taken}
+use Rattle.session_ops.proofs.Live.{found-number}
+use Rattle.world.proofs.Moving.{one-source, taken-source, grown-revision, applied-none, own-none}
 use Rattle.world.proofs.Keeping.{IsOwnBack, own-back, not-quiet, kept-passed, live-moved, live-from, live-kept, kept-ops, reports-weaker}
 use Rattle.world.proofs.Pendings.{shifted_option, shifted-same, shifted-other, without-same, without-other, pending-added, pending-beside, messages-append, edit-here, edit-beside}
+use Rattle.world.proofs.Quiet.{quiet-outbox}
 
 -- a delta is posted for a cell of which nothing but reports is on its way
 pub posted-kept : (s : State) (later : List Entry) (n k rev : ℕ) (ops : List Op) (d : List Step) (t : List ℕ) → rev ≡ revision s k → HasSource s.book k t → FitsText d t → IsQuiet s later n k ops → IsKeptLive s later n k (ops ++ Delta k rev d ∷ []) (Some (record { cell = k; flight = d; buffer = [] }))
@@ -69,7 +74,7 @@ entry-book s e call answer is = ap (λ c. (after_call s c e.reply).book) is.call
 taken-fits : (s : State) (m j base rev : ℕ) (d x : List Step) → Applied rev x ≡ reply s (ByClient m (Delta j base d)) → (t : List ℕ) → HasSource s.book j t → FitsText x t
 taken-fits s m j base rev d x right t h =
     let is : IsTaken s j rev x = applied-taken s m j base rev d x (sym right) in
-    fits-from x t (subst (λ u. misfit x u ≡ None) (one-source s.book j t is.own h is.there) is.fits)
+    subst (FitsText x) (one-source s.book j t is.own h is.there) is.fits
 
 -- a delta leaves each other cell as it is
 other-cell : (j k : ℕ) (x : List Step) (o : Option Cell) → (j == k) ≡ false → ((c : Cell) → o ≡ Some c → c.id ≡ k) → option_map (resourced_cell (moved_source j x)) o ≡ o
@@ -188,23 +193,23 @@ own-received s c e es m j base rev k d x h is mine kept =
     refl
 
 -- what applies no delta leaves the outbox as it is
-op-outbox : (s : State) (c : Client) (n : ℕ) (op : Op) (answer : Reply) → is_applied_op op answer ≡ false → (with_op s c n op answer).outbox ≡ c.outbox
+op-outbox : (s : State) (c : Client) (n : ℕ) (op : Op) (answer : Reply) → is_applied_op op answer ≡ false → (with_deed s.book c (deed (ByClient n op) answer)).outbox ≡ c.outbox
 op-outbox s c n op (Refused why) e = refl
 op-outbox s c n (Delta j base d) (Applied rev x) e = absurd (cc e)
-op-outbox s c n op answer e = refl
+op-outbox s c n op answer e = quiet-outbox s.book c (change_of op)
 
-pub passing-outbox : (s : State) (c : Client) (call : Call) (answer : Reply) → is_applied call answer ≡ false → (with_call s c call answer).outbox ≡ c.outbox
+pub passing-outbox : (s : State) (c : Client) (call : Call) (answer : Reply) → is_applied call answer ≡ false → (with_deed s.book c (deed call answer)).outbox ≡ c.outbox
 passing-outbox s c (ByClient n op) answer e = op-outbox s c n op answer e
 passing-outbox s c call answer e = refl
 
-passed-received : (s : State) (c : Client) (e : Entry) (es : List Entry) (call : Call) (answer : Reply) (k : ℕ) → IsNotebook s.book → IsEntry s e call answer → is_applied call answer ≡ false → IsKeptBy s (e ∷ es) k c → IsKept (after s e) es c.number k (with_call s c call answer).outbox (found k (cells (after s e).book)) (pending_of k (with_call s c call answer).pending)
+passed-received : (s : State) (c : Client) (e : Entry) (es : List Entry) (call : Call) (answer : Reply) (k : ℕ) → IsNotebook s.book → IsEntry s e call answer → is_applied call answer ≡ false → IsKeptBy s (e ∷ es) k c → IsKept (after s e) es c.number k (with_deed s.book c (deed call answer)).outbox (found k (cells (after s e).book)) (pending_of k (with_deed s.book c (deed call answer)).pending)
 passed-received s c e es call answer k h is other kept =
-    let passing : IsPassing s.book (after s e).book c.pending (with_call s c call answer).pending k = subst (λ n. IsPassing s.book n c.pending (with_call s c call answer).pending k) (sym (entry-book s e call answer is)) (call-passing s call answer c k h is.right other) in
-    subst (λ ops. IsKept (after s e) es c.number k ops (found k (cells (after s e).book)) (pending_of k (with_call s c call answer).pending)) (sym (passing-outbox s c call answer other))
-    (kept-passed s e es c.number k c.outbox c.pending (with_call s c call answer).pending h (entry-own s e call answer c.number k is ∙ own-none call answer c.number k other) (entry-applied s e call answer k is ∙ applied-none call answer k other) passing kept)
+    let passing : IsPassing s.book (after s e).book c.pending (with_deed s.book c (deed call answer)).pending k = subst (λ n. IsPassing s.book n c.pending (with_deed s.book c (deed call answer)).pending k) (sym (entry-book s e call answer is)) (call-passing s call answer c k h is.right other) in
+    subst (λ ops. IsKept (after s e) es c.number k ops (found k (cells (after s e).book)) (pending_of k (with_deed s.book c (deed call answer)).pending)) (sym (passing-outbox s c call answer other))
+    (kept-passed s e es c.number k c.outbox c.pending (with_deed s.book c (deed call answer)).pending h (entry-own s e call answer c.number k is ∙ own-none call answer c.number k other) (entry-applied s e call answer k is ∙ applied-none call answer k other) passing kept)
 
 -- the next entry was received
-pub call-received : (s : State) (c : Client) (e : Entry) (es : List Entry) (call : Call) (answer : Reply) (k : ℕ) → IsNotebook s.book → IsEntry s e call answer → IsKeptBy s (e ∷ es) k c → IsKept (after s e) es c.number k (with_call s c call answer).outbox (found k (cells (after s e).book)) (pending_of k (with_call s c call answer).pending)
+pub call-received : (s : State) (c : Client) (e : Entry) (es : List Entry) (call : Call) (answer : Reply) (k : ℕ) → IsNotebook s.book → IsEntry s e call answer → IsKeptBy s (e ∷ es) k c → IsKept (after s e) es c.number k (with_deed s.book c (deed call answer)).outbox (found k (cells (after s e).book)) (pending_of k (with_deed s.book c (deed call answer)).pending)
 call-received s c e es (ByClient m (Delta j base d)) (Applied rev x) k h is kept =
     elim (m == c.number)
     as (λ b. (m == c.number) ≡ b → IsKept (after s e) es c.number k (if b then with_own c j rev (pending_of j c.pending) else record c { pending = all_moved j x c.pending }).outbox (found k (cells (after s e).book)) (pending_of k (if b then with_own c j rev (pending_of j c.pending) else record c { pending = all_moved j x c.pending }).pending))

@@ -336,7 +336,7 @@ told-accepted : (t : State) (n j rev : ℕ) (e : Entry) → IsNotebook t.book �
 told-accepted t n j rev e h is =
     let known : (after t e).known ≡ t.known ++ record { client = n; cell = j; rev = rev } ∷ [] = ap (λ c. (after_call t c e.reply).known) is.call_is ∙ ap (λ r. (after_call t (ByClient n (Report j rev)) r).known) is.reply_is in
     record {
-      other = ap (λ c. is_own_call n j c e.reply) is.call_is;
+      other = ap (λ c. is_own_call n j c e.reply) is.call_is ∙ ap (is_own_call n j (ByClient n (Report j rev))) is.reply_is;
       told = λ top le up. subst (λ ms. floor n j ms ≤ top) (sym known) (floor-one n j top t.known (record { client = n; cell = j; rev = rev }) le up);
       gone = call-gone t e.call e.reply j h (is.reply_is ∙ (is.right ∙ ap (reply t) (sym is.call_is)));
     }

@@ -3,27 +3,35 @@ use Rattle.std.specs.Prelude.{◌≡◌, ℕ, ◌==◌, ◌&&◌, Bool, false, i
 use Rattle.std.specs.List.{AllByRecursion}
 use Rattle.delta.specs.declared.Step.{Step}
 use Rattle.delta.specs.Moves.{FitsText, text_after}
-use Rattle.session_ops.specs.declared.entry.Op.TheVariants.{Leave, Delta}
+use Rattle.session_ops.specs.declared.entry.Op.TheVariants.{Leave}
 use Rattle.session_ops.specs.declared.entry.Call.{Call}
 use Rattle.session_ops.specs.declared.entry.Call.TheVariants.{Client as ByClient}
 use Rattle.session_ops.specs.declared.entry.Reply.{Reply}
-use Rattle.session_ops.specs.declared.entry.Reply.TheVariants.{Applied}
 use Rattle.session_ops.specs.declared.entry.Entry.{Entry}
+use Rattle.session_ops.specs.Deeds.{Deed, Nothing, Edits, Changes, deed}
 
--- the delta that a call applied to a cell, if it did
+-- the delta that an entry applied to a cell, if it did
+abbrev pub edits_of : ℕ → Deed → List (List Step)
+edits_of cell Nothing = []
+edits_of cell (Edits e) = if e.cell == cell then e.delta ∷ [] else []
+edits_of cell (Changes asked) = []
+
 abbrev pub applied_by : ℕ → Call → Reply → List (List Step)
-applied_by cell (ByClient n (Delta k base d)) (Applied rev x) = if k == cell then x ∷ [] else []
-applied_by cell call answer = []
+applied_by cell call answer = edits_of cell (deed call answer)
 
 -- the deltas that entries applied to a cell, in order
 abbrev pub applied_in : ℕ → List Entry → List (List Step)
 applied_in cell [] = []
 applied_in cell (e ∷ es) = applied_by cell e.call e.reply ++ applied_in cell es
 
--- whether a call applied a delta of the number to a cell
+-- whether an entry applied a delta of the number to a cell
+abbrev pub is_own_edit : ℕ → ℕ → Deed → Bool
+is_own_edit n cell Nothing = false
+is_own_edit n cell (Edits e) = (e.client == n) && (e.cell == cell)
+is_own_edit n cell (Changes asked) = false
+
 abbrev pub is_own_call : ℕ → ℕ → Call → Reply → Bool
-is_own_call n cell (ByClient m (Delta k base d)) (Applied rev x) = (m == n) && (k == cell)
-is_own_call n cell call answer = false
+is_own_call n cell call answer = is_own_edit n cell (deed call answer)
 
 abbrev pub is_own : ℕ → ℕ → Entry → Bool
 is_own n cell e = is_own_call n cell e.call e.reply

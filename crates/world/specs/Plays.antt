@@ -1,13 +1,15 @@
 -- A world in memory stands for a session and its clients.
-use Rattle.std.specs.Prelude.{◌≡◌, ◌≤◌, ℕ, List, [], ◌∷◌, ◌++◌, length, take, Option, Some, None}
+use Rattle.std.specs.Prelude.{◌≡◌, ◌≤◌, ℕ, ◌+◌, ◌==◌, if◌then◌else◌, List, [], ◌∷◌, ◌++◌, drop, length, take, Option, Some, None, OnOk, Result}
+use Rattle.delta.specs.declared.Step.{Step}
 use Rattle.notebook.specs.declared.parts.Parts.{Parts}
 use Rattle.session_ops.specs.declared.entry.Entry.{Entry}
-use Rattle.client_sync.specs.Client.{Client as Holder, Edited, Done, NoCell, EditTooLong, Unfit, client_of, held, received_entry}
+use Rattle.client_sync.specs.Client.{Client as Holder, Edited, Done, NoCell, EditTooLong, Unfit, client_of, edited, held, joined_client, received_entry, reported}
 use Rattle.client_sync.specs.declared.client.Client.{Client}
-use Rattle.client_sync.specs.Stands.{Mirrors}
+use Rattle.client_sync.specs.Stands.{Mirrors, IsNextEntry}
 use Rattle.session_core.specs.Session.{IsSession, history_of}
 use Rattle.world.specs.declared.event.Event.{Event}
-use Rattle.world.specs.World.{World as Course}
+use Rattle.world.specs.World.{World as Course, happens}
+use Rattle.world.specs.Sound.{IsSound}
 use Rattle.world.specs.Claims.{IsWhole, DoAgree, AreHeard, FrontsShow}
 use Rattle.world.specs.Messages.{AreAnsweredFairly}
 use Rattle.world.specs.Waiting.{AreHonest, AreFair}
@@ -48,6 +50,19 @@ abbrev pub IsPlaceOf : ℕ → List Holder → Option ℕ → Type 0
 IsPlaceOf n ms None = client_of n ms ≡ None
 IsPlaceOf n ms (Some at) = IsHolderAt n ms at
 
+-- the same by its number alone: a place counted from so many before, and the first place of a number among some
+abbrev pub later : ℕ → Option ℕ → Option ℕ
+later n None = None
+later n (Some at) = Some (n + at)
+
+abbrev pub place_in : ℕ → List ℕ → Option ℕ
+place_in n [] = None
+place_in n (m ∷ ms) = if m == n then Some 0 else later 1 (place_in n ms)
+
+-- whatever clients these stand for, the place is that of the number's
+abbrev pub PlacesAmong : List Client → ℕ → Option ℕ → Type 0
+PlacesAmong clients n place = (n0 : Parts) (ms : List Holder) → AreMirrors n0 clients ms → IsPlaceOf n ms place
+
 -- the client that an edit leaves; a refused edit leaves it as it was
 abbrev pub edited_or_same : Holder → Edited → Holder
 edited_or_same m (Done d) = d
@@ -64,6 +79,36 @@ reported_or_same m (Some d) = d
 abbrev pub received_first : Parts → Holder → List Entry → Holder
 received_first n0 m [] = m
 received_first n0 m (e ∷ es) = received_entry n0 m e
+
+-- whatever course the world plays, where it succeeds it plays the one that goes on with this event, or with this call
+abbrev pub GoesOn : {T E : Type 0} → Result T E → Event → World → World → Type 0
+GoesOn result e old new = (w : Course) → Plays w old → OnOk result (Plays (happens w e) new)
+
+abbrev pub GoesOnSound : {T E : Type 0} → Result T E → Event → World → World → Type 0
+GoesOnSound result e old new = (w : Course) → IsSound w → Plays w old → OnOk result (Plays (happens w e) new)
+
+-- it holds the number's client, or none
+abbrev pub Holds : ℕ → World → Option Client → Type 0
+Holds n x answer = (w : Course) → Plays w x → IsHeldBy w.opening (client_of n w.clients) answer
+
+-- and where a client that has just joined is put at the end
+abbrev pub with_newest : ℕ → Course → Course
+with_newest n w = record w { clients = w.clients ++ joined_client n w.history ∷ [] }
+
+-- whatever the client stands for, where it succeeds it stands for what its own edit, or report, leaves
+abbrev pub EditsOwn : {T E : Type 0} → Result T E → ℕ → List Step → Client → Client → Type 0
+EditsOwn result cell d old new = (n0 : Parts) (m : Holder) → Mirrors n0 old m → OnOk result (Mirrors n0 new (edited_or_same m (edited n0 m cell d)))
+
+abbrev pub ReportsOwn : {T E : Type 0} → Result T E → ℕ → Client → Client → Type 0
+ReportsOwn result cell old new = (n0 : Parts) (m : Holder) → Mirrors n0 old m → OnOk result (Mirrors n0 new (reported_or_same m (reported n0 m cell)))
+
+-- the first of the entries that it has not received, if there is one, is a next entry for it
+abbrev pub IsNextOf : Parts → List Entry → Holder → Type 0
+IsNextOf n0 h m = (e : Entry) (es : List Entry) → drop (length m.seen) h ≡ e ∷ es → IsNextEntry n0 m e
+
+-- and it receives that entry
+abbrev pub ReceivesNext : {T E : Type 0} → Result T E → List Entry → Client → Client → Type 0
+ReceivesNext result h old new = (n0 : Parts) (m : Holder) → Mirrors n0 old m → IsNextOf n0 h m → OnOk result (Mirrors n0 new (received_first n0 m (drop (length m.seen) h)))
 
 -- a client in memory has received the history up to its cursor, and holds what that makes of the opening notebook with its own pending edits done to it
 pub record HoldsFront (n0 : Parts) (h : List Entry) (c : Client) (m : Holder) : Type 0 where

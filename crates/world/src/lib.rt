@@ -12,4 +12,4 @@ mod event;
 mod world;
 
 pub use event::Event;
-pub use world::{World, run};
+pub use world::{World, place_of, run};

@@ -1,14 +1,12 @@
 //! A session and its clients in memory, and what each event does to them.
-ghost use Rattle.std.specs.Prelude.{◌≡◌, ◌<◌, ℕ, List, [], ◌∷◌, ◌++◌, drop, length, None, Some, IfOk, IfSome, OnOk};
+ghost use Rattle.std.specs.Prelude.{◌≡◌, ◌<◌, length, map, IfOk, IfSome, OnOk};
 ghost use Rattle.std.specs.Option.{option_copied};
-ghost use Rattle.notebook.specs.declared.parts.Parts.{Parts};
 ghost use Rattle.session_ops.specs.declared.entry.Call.TheVariants.{Client as ByClient};
 ghost use Rattle.session_ops.specs.declared.entry.Entry.{Entry};
-ghost use Rattle.client_sync.specs.Client.{Client as Holder, edited, reported, client_of, joined_client, with_message};
-ghost use Rattle.client_sync.specs.Stands.{Mirrors, IsNextEntry, IsPostable};
-ghost use Rattle.world.specs.World.{World as Course, first_world, called, once_gone, happens, run, with_joined};
-ghost use Rattle.world.specs.Sound.{IsApart, IsSound};
-ghost use Rattle.world.specs.Plays.{AreMirrors, Plays, IsHeldBy, IsPlaceOf, IsRun, edited_or_same, reported_or_same, received_first};
+ghost use Rattle.client_sync.specs.Stands.{IsPostable, number_in};
+ghost use Rattle.world.specs.World.{World as Course, first_world, called, once_gone, run, with_joined};
+ghost use Rattle.world.specs.Sound.{IsApart};
+ghost use Rattle.world.specs.Plays.{Plays, EditsOwn, GoesOn, GoesOnSound, Holds, IsRun, PlacesAmong, ReceivesNext, ReportsOwn, place_in, with_newest};
 ghost use Rattle.world.specs.declared.event.Event.TheVariants.{Join, Leave, Edit, Post, Report, Take, Receive, RawJoin, Raw};
 
 use crate::event::Event;
@@ -49,7 +47,7 @@ impl World {
 
     /// The client of a number; `None` exactly where the number holds no client. Takes no memory.
     pub fn client(&self, number: u32) -> Option<&Client>
-        ensures { (w : Course) → Plays w self.now → IsHeldBy w.opening (client_of number w.clients) (option_copied result) }
+        ensures { Holds number self.now (option_copied result) }
     {
         match place_of(&self.clients, number) {
             None => None,
@@ -70,7 +68,7 @@ impl World {
 
     /// Lets an event happen. Nothing is said of the world after want of memory.
     fn happen(&mut self, alloc: Global, event: &Event) -> Result<(), AllocError>
-        ensures { (w : Course) → IsSound w → Plays w self.old → OnOk result (Plays (happens w event.now) self.new) }
+        ensures { GoesOnSound result event.now self.old self.new }
     {
         match event {
             Event::Join { client } => self.join(alloc, *client),
@@ -91,7 +89,8 @@ impl World {
 
     /// A number makes a call.
     fn call(&mut self, number: u32, op: Op) -> Result<(), AllocError>
-        ensures { (w : Course) → Plays w self.old → OnOk result (Plays (called w (ByClient number op)) self.new) }
+        ensures { (w : Course) → Plays w self.old
+            → OnOk result (Plays (called w (ByClient number op)) self.new) }
     {
         self.session.apply(0, number, op)?;
         Ok(())
@@ -99,7 +98,7 @@ impl World {
 
     /// A number that holds no client makes a call.
     fn call_raw(&mut self, alloc: Global, number: u32, op: &Op) -> Result<(), AllocError>
-        ensures { (w : Course) → Plays w self.old → OnOk result (Plays (happens w (Raw number op.now)) self.new) }
+        ensures { GoesOn result (Raw number op.now) self.old self.new }
     {
         match place_of(&self.clients, number) {
             Some(_) => Ok(()),
@@ -112,7 +111,7 @@ impl World {
 
     /// A number asks to join.
     fn join(&mut self, alloc: Global, number: u32) -> Result<(), AllocError>
-        ensures { (w : Course) → Plays w self.old → OnOk result (Plays (happens w (Join number)) self.new) }
+        ensures { GoesOn result (Join number) self.old self.new }
     {
         let reply = self.session.apply(0, number, Op::Join)?;
         self.admit(alloc, number, &reply)
@@ -120,7 +119,8 @@ impl World {
 
     /// A number whose joining was accepted holds a client from then on.
     fn admit(&mut self, alloc: Global, number: u32, reply: &Reply) -> Result<(), AllocError>
-        ensures { (w : Course) → Plays w self.old → OnOk result (Plays (with_joined w number reply.now) self.new) }
+        ensures { (w : Course) → Plays w self.old
+            → OnOk result (Plays (with_joined w number reply.now) self.new) }
     {
         match reply {
             Reply::Accepted => self.add(alloc, number),
@@ -130,7 +130,8 @@ impl World {
 
     /// A new client that has received all.
     fn add(&mut self, alloc: Global, number: u32) -> Result<(), AllocError>
-        ensures { (w : Course) → Plays w self.old → OnOk result (Plays (record w { clients = w.clients ++ joined_client number w.history ∷ [] }) self.new) }
+        ensures { (w : Course) → Plays w self.old
+            → OnOk result (Plays (with_newest number w) self.new) }
     {
         let snapshot = self.session.snapshot()?;
         let client = Client::join(alloc, number, snapshot)?;
@@ -140,7 +141,7 @@ impl World {
 
     /// A number leaves, and its client is gone with its outbox.
     fn leave(&mut self, number: u32) -> Result<(), AllocError>
-        ensures { (w : Course) → IsSound w → Plays w self.old → OnOk result (Plays (happens w (Leave number)) self.new) }
+        ensures { GoesOnSound result (Leave number) self.old self.new }
     {
         self.call(number, Op::Leave)?;
         self.dismiss(number);
@@ -149,7 +150,8 @@ impl World {
 
     /// The number's client is gone.
     fn dismiss(&mut self, number: u32)
-        ensures { (w : Course) → IsApart w → Plays w self.old → Plays (once_gone number w) self.new }
+        ensures { (w : Course) → IsApart w → Plays w self.old
+            → Plays (once_gone number w) self.new }
     {
         match place_of(&self.clients, number) {
             None => {}
@@ -161,7 +163,7 @@ impl World {
 
     /// A number's client edits its own text of a cell.
     fn edit(&mut self, number: u32, cell: CellId, delta: &Delta) -> Result<(), AllocError>
-        ensures { (w : Course) → IsSound w → Plays w self.old → OnOk result (Plays (happens w (Edit number cell delta.now)) self.new) }
+        ensures { GoesOnSound result (Edit number cell delta.now) self.old self.new }
     {
         match place_of(&self.clients, number) {
             None => Ok(()),
@@ -171,7 +173,7 @@ impl World {
 
     /// A number's client posts a message, but for those that can't be posted.
     fn post(&mut self, alloc: Global, number: u32, op: &Op) -> Result<(), AllocError>
-        ensures { (w : Course) → IsSound w → Plays w self.old → OnOk result (Plays (happens w (Post number op.now)) self.new) }
+        ensures { GoesOnSound result (Post number op.now) self.old self.new }
     {
         if op.is_postable() {
             self.post_message(alloc, number, op)
@@ -183,7 +185,7 @@ impl World {
     /// A number's client posts a message.
     fn post_message(&mut self, alloc: Global, number: u32, op: &Op) -> Result<(), AllocError>
         requires { IsPostable op.now }
-        ensures { (w : Course) → IsSound w → Plays w self.old → OnOk result (Plays (happens w (Post number op.now)) self.new) }
+        ensures { GoesOnSound result (Post number op.now) self.old self.new }
     {
         match place_of(&self.clients, number) {
             None => Ok(()),
@@ -196,7 +198,7 @@ impl World {
 
     /// A number's client reports its revision of a cell.
     fn report(&mut self, number: u32, cell: CellId) -> Result<(), AllocError>
-        ensures { (w : Course) → IsSound w → Plays w self.old → OnOk result (Plays (happens w (Report number cell)) self.new) }
+        ensures { GoesOnSound result (Report number cell) self.old self.new }
     {
         match place_of(&self.clients, number) {
             None => Ok(()),
@@ -206,7 +208,7 @@ impl World {
 
     /// The session answers the message at the front of a client's outbox.
     fn take(&mut self, number: u32) -> Result<(), AllocError>
-        ensures { (w : Course) → IsSound w → Plays w self.old → OnOk result (Plays (happens w (Take number)) self.new) }
+        ensures { GoesOnSound result (Take number) self.old self.new }
     {
         match place_of(&self.clients, number) {
             None => Ok(()),
@@ -222,7 +224,7 @@ impl World {
 
     /// A number's client receives the next entry of the history.
     fn receive(&mut self, number: u32) -> Result<(), AllocError>
-        ensures { (w : Course) → IsSound w → Plays w self.old → OnOk result (Plays (happens w (Receive number)) self.new) }
+        ensures { GoesOnSound result (Receive number) self.old self.new }
     {
         match place_of(&self.clients, number) {
             None => Ok(()),
@@ -231,9 +233,11 @@ impl World {
     }
 }
 
-/// The place of the client of a number.
-fn place_of(clients: &[Client], number: u32) -> Option<usize>
-    ensures place { (n0 : Parts) (ms : List Holder) → AreMirrors n0 clients.now ms → IsPlaceOf number ms result }
+/// The place of the client of a number among some clients; `None` exactly where the number holds none.
+/// Takes no memory.
+pub fn place_of(clients: &[Client], number: u32) -> Option<usize>
+    ensures first { result ≡ place_in number (map number_in clients.now) }
+    ensures place { PlacesAmong clients.now number result }
     ensures within { IfSome result (λ place. place < length clients.now) }
 {
     for (place, client) in clients.iter().enumerate() {
@@ -246,7 +250,7 @@ fn place_of(clients: &[Client], number: u32) -> Option<usize>
 
 /// A client edits its own text of a cell; a refused edit leaves it as it was.
 fn edit_own(client: &mut Client, cell: CellId, delta: &Delta) -> Result<(), AllocError>
-    ensures { (n0 : Parts) (m : Holder) → Mirrors n0 client.old m → OnOk result (Mirrors n0 client.new (edited_or_same m (edited n0 m cell delta.now))) }
+    ensures { EditsOwn result cell delta.now client.old client.new }
 {
     match client.edit(cell, delta) {
         Err(EditError::OutOfMemory) => Err(AllocError),
@@ -256,7 +260,7 @@ fn edit_own(client: &mut Client, cell: CellId, delta: &Delta) -> Result<(), Allo
 
 /// A client reports its revision of a cell; where it has no such cell it stays as it was.
 fn report_own(client: &mut Client, cell: CellId) -> Result<(), AllocError>
-    ensures { (n0 : Parts) (m : Holder) → Mirrors n0 client.old m → OnOk result (Mirrors n0 client.new (reported_or_same m (reported n0 m cell))) }
+    ensures { ReportsOwn result cell client.old client.new }
 {
     match client.post_report(cell) {
         Err(PostError::OutOfMemory) => Err(AllocError),
@@ -266,7 +270,7 @@ fn report_own(client: &mut Client, cell: CellId) -> Result<(), AllocError>
 
 /// A client receives the history's entry at its cursor, if there is one.
 fn receive_next(client: &mut Client, history: &[Entry]) -> Result<(), AllocError>
-    ensures { (n0 : Parts) (m : Holder) → Mirrors n0 client.old m → ((e : Entry) (es : List Entry) → drop (length m.seen) history.now ≡ e ∷ es → IsNextEntry n0 m e) → OnOk result (Mirrors n0 client.new (received_first n0 m (drop (length m.seen) history.now))) }
+    ensures { ReceivesNext result history.now client.old client.new }
 {
     match history.get(client.cursor() as usize) {
         None => Ok(()),

@@ -7,16 +7,16 @@ use Rattle.driver.proofs.Still.{stands-placed, pending-nobody, pending-played}
 use Rattle.driver.proofs.player.Player.pending.Goals as goal
 
 pub index-own-requires : goal.index-own-requires
-index-own-requires c = within c.args.client c.deref.result.now _ _ c.in-Some.at c.place_of.result c.place_of.ensures c.in-Some.is refl c.deref.ensures.len
+index-own-requires c = within c.args.client c.deref.result.now _ _ c.in-Some.at c.place_of.result c.place_of.ensures.first c.in-Some.is refl c.deref.ensures.len
 
 pub returns-in_ok-push_no_client-in-None : goal.returns-in_ok-push_no_client-in-None
 returns-in_ok-push_no_client-in-None c = λ g s nm st.
-    pending-nobody g c.args.self.now _ s c.args.client c.args.cell _ _ st (stands-placed g c.args.self.now s c.args.client c.place_of.result None c.deref.result.now st c.place_of.ensures c.deref.ensures.value c.in-None.is) refl
+    pending-nobody g c.args.self.now _ s c.args.client c.args.cell _ _ st (stands-placed g c.args.self.now s c.args.client c.place_of.result None c.deref.result.now st c.place_of.ensures.first c.deref.ensures.value c.in-None.is) refl
     (c.in_ok-push_no_client-in-None.ensures ∙ ap (λ x. string_bytes c.args.out.now ++ as_text (no_client_words x (codes "pending") ∷ [])) nm)
 
 pub returns-in_ok-push_pending-in-Some : goal.returns-in_ok-push_pending-in-Some
 returns-in_ok-push_pending-in-Some c = λ g s nm st.
-    let is : IsAt g.opening c.args.self.now.clients.items s.clients c.args.client c.in-Some.at = stands-placed g c.args.self.now s c.args.client c.place_of.result (Some c.in-Some.at) c.deref.result.now st c.place_of.ensures c.deref.ensures.value c.in-Some.is in
+    let is : IsAt g.opening c.args.self.now.clients.items s.clients c.args.client c.in-Some.at = stands-placed g c.args.self.now s c.args.client c.place_of.result (Some c.in-Some.at) c.deref.result.now st c.place_of.ensures.first c.deref.ensures.value c.in-Some.is in
     pending-played g c.args.self.now _ s c.args.client c.args.cell is.own c.args.name.now _ _ c.outbox_len.result nm st is.there refl
     (c.outbox_len.ensures g.opening is.own (is.mirrors c.index-own.result.now c.index-own.ensures))
     (c.in_ok-push_pending-in-Some.ensures _ _ (c.pending.ensures g.opening is.own (is.mirrors c.index-own.result.now c.index-own.ensures)))

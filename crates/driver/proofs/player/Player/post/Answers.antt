@@ -7,15 +7,15 @@ use Rattle.driver.proofs.Still.{stands-placed, post-nobody, post-played}
 use Rattle.driver.proofs.player.Player.post.Goals as goal
 
 pub index_mut-requires : goal.index_mut-requires
-index_mut-requires c = within c.args.client c.deref.result.now _ _ c.in-Some.at c.place_of.result c.place_of.ensures c.in-Some.is refl c.deref.ensures.len
+index_mut-requires c = within c.args.client c.deref.result.now _ _ c.in-Some.at c.place_of.result c.place_of.ensures.first c.in-Some.is refl c.deref.ensures.len
 
 pub returns-in_ok-push_no_client-in-None : goal.returns-in_ok-push_no_client-in-None
 returns-in_ok-push_no_client-in-None c = λ g s nm st.
-    post-nobody g c.args.self.now _ s c.args.client c.args.op.now _ _ st (stands-placed g c.args.self.now s c.args.client c.place_of.result None c.deref.result.now st c.place_of.ensures c.deref.ensures.value c.in-None.is) refl
+    post-nobody g c.args.self.now _ s c.args.client c.args.op.now _ _ st (stands-placed g c.args.self.now s c.args.client c.place_of.result None c.deref.result.now st c.place_of.ensures.first c.deref.ensures.value c.in-None.is) refl
     (c.in_ok-push_no_client-in-None.ensures ∙ ap (λ x. string_bytes c.args.out.now ++ as_text (no_client_words x (codes "post") ∷ [])) nm)
 
 pub returns-in_ok-post_own-in-Some : goal.returns-in_ok-post_own-in-Some
 returns-in_ok-post_own-in-Some c = λ g s nm st.
-    let is : IsAt g.opening c.args.self.now.clients.items s.clients c.args.client c.in-Some.at = stands-placed g c.args.self.now s c.args.client c.place_of.result (Some c.in-Some.at) c.deref.result.now st c.place_of.ensures c.deref.ensures.value c.in-Some.is in
+    let is : IsAt g.opening c.args.self.now.clients.items s.clients c.args.client c.in-Some.at = stands-placed g c.args.self.now s c.args.client c.place_of.result (Some c.in-Some.at) c.deref.result.now st c.place_of.ensures.first c.deref.ensures.value c.in-Some.is in
     post-played g c.args.self.now _ s c.args.client c.args.op.now c.in-Some.at c.post_own.new.own c.args.name.now _ _ nm st is refl refl refl
     (c.in_ok-post_own-in-Some.ensures g.opening is.own (is.mirrors c.index_mut.result.now c.index_mut.ensures.value))

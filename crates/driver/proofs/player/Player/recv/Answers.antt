@@ -14,16 +14,16 @@ use Rattle.driver.proofs.Looking.{recv-played, stage-lawful}
 use Rattle.driver.proofs.player.Player.recv.Goals as goal
 
 pub index_mut-requires : goal.index_mut-requires
-index_mut-requires c = subst (λ p. c.in-Some.at < vec_len p.clients) (sym c.in_ok-look-in-Some.ensures.1) (within c.args.client c.deref.result.now _ _ c.in-Some.at c.place_of.result c.place_of.ensures c.in-Some.is refl c.deref.ensures.len)
+index_mut-requires c = subst (λ p. c.in-Some.at < vec_len p.clients) (sym c.in_ok-look-in-Some.ensures.1) (within c.args.client c.deref.result.now _ _ c.in-Some.at c.place_of.result c.place_of.ensures.first c.in-Some.is refl c.deref.ensures.len)
 
 pub returns-in_ok-push_no_client-in-None : goal.returns-in_ok-push_no_client-in-None
 returns-in_ok-push_no_client-in-None c = λ g s nm st.
-    recv-nobody g c.args.self.now _ s c.args.client c.args.count _ _ st (stands-placed g c.args.self.now s c.args.client c.place_of.result None c.deref.result.now st c.place_of.ensures c.deref.ensures.value c.in-None.is) refl
+    recv-nobody g c.args.self.now _ s c.args.client c.args.count _ _ st (stands-placed g c.args.self.now s c.args.client c.place_of.result None c.deref.result.now st c.place_of.ensures.first c.deref.ensures.value c.in-None.is) refl
     (c.in_ok-push_no_client-in-None.ensures ∙ ap (λ x. string_bytes c.args.out.now ++ as_text (no_client_words x (codes "recv") ∷ [])) nm)
 
 pub returns-in_ok-receive_own-in-Some : goal.returns-in_ok-receive_own-in-Some
 returns-in_ok-receive_own-in-Some c = λ g s nm st.
-    let is : IsAt g.opening c.args.self.now.clients.items s.clients c.args.client c.in-Some.at = stands-placed g c.args.self.now s c.args.client c.place_of.result (Some c.in-Some.at) c.deref.result.now st c.place_of.ensures c.deref.ensures.value c.in-Some.is in
+    let is : IsAt g.opening c.args.self.now.clients.items s.clients c.args.client c.in-Some.at = stands-placed g c.args.self.now s c.args.client c.place_of.result (Some c.in-Some.at) c.deref.result.now st c.place_of.ensures.first c.deref.ensures.value c.in-Some.is in
     let look = c.in_ok-look-in-Some.ensures in
     let eh = c.history-history.ensures.entries ∙ ap (λ p. history_of p.session) look.1 in
     recv-played g c.args.self.now _ s c.args.client c.args.count c.in-Some.at c.receive_own.new.own c.args.name.now _ _ nm st is (ap (λ p. p.session) look.1) (ap (λ p. p.marks) look.1 ∙ ap (λ k. c.args.self.now.marks ++ k ∷ []) look.0)

@@ -9,15 +9,15 @@ use Rattle.driver.proofs.Sending.{send-played}
 use Rattle.driver.proofs.player.Player.send.Goals as goal
 
 pub index-requires : goal.index-requires
-index-requires c = within c.args.client c.deref.result.now _ _ c.in-Some.at c.place_of.result c.place_of.ensures c.in-Some.is refl c.deref.ensures.len
+index-requires c = within c.args.client c.deref.result.now _ _ c.in-Some.at c.place_of.result c.place_of.ensures.first c.in-Some.is refl c.deref.ensures.len
 
 pub returns-in_ok-push_no_client-in-None : goal.returns-in_ok-push_no_client-in-None
 returns-in_ok-push_no_client-in-None c = λ g s nm st.
-    send-nobody g c.args.self.now _ s c.args.client c.args.count _ _ st (stands-placed g c.args.self.now s c.args.client c.place_of.result None c.deref.result.now st c.place_of.ensures c.deref.ensures.value c.in-None.is) refl
+    send-nobody g c.args.self.now _ s c.args.client c.args.count _ _ st (stands-placed g c.args.self.now s c.args.client c.place_of.result None c.deref.result.now st c.place_of.ensures.first c.deref.ensures.value c.in-None.is) refl
     (c.in_ok-push_no_client-in-None.ensures ∙ ap (λ x. string_bytes c.args.out.now ++ as_text (no_client_words x (codes "send") ∷ [])) nm)
 
 pub returns-in_ok-send_or_nothing-in-Some : goal.returns-in_ok-send_or_nothing-in-Some
 returns-in_ok-send_or_nothing-in-Some c = λ g s nm st.
-    let is : IsAt g.opening c.args.self.now.clients.items s.clients c.args.client c.in-Some.at = stands-placed g c.args.self.now s c.args.client c.place_of.result (Some c.in-Some.at) c.deref.result.now st c.place_of.ensures c.deref.ensures.value c.in-Some.is in
+    let is : IsAt g.opening c.args.self.now.clients.items s.clients c.args.client c.in-Some.at = stands-placed g c.args.self.now s c.args.client c.place_of.result (Some c.in-Some.at) c.deref.result.now st c.place_of.ensures.first c.deref.ensures.value c.in-Some.is in
     send-played g c.args.client c.how_many-many.result c.args.count is.own c.args.self.now c.send_or_nothing.new.self s _ _ is.there
     (c.how_many-many.ensures ∙ ap (how_many c.args.count) (c.outbox_len.ensures g.opening is.own (is.mirrors c.index.result.now c.index.ensures))) (c.in_ok-send_or_nothing-in-Some.ensures g s nm st)

@@ -7,15 +7,15 @@ use Rattle.driver.proofs.Still.{stands-placed, show-nobody, show-played}
 use Rattle.driver.proofs.player.Player.show.Goals as goal
 
 pub index-own-requires : goal.index-own-requires
-index-own-requires c = within c.args.client c.deref.result.now _ _ c.in-Some.at c.place_of.result c.place_of.ensures c.in-Some.is refl c.deref.ensures.len
+index-own-requires c = within c.args.client c.deref.result.now _ _ c.in-Some.at c.place_of.result c.place_of.ensures.first c.in-Some.is refl c.deref.ensures.len
 
 pub returns-in_ok-push_no_client-in-None : goal.returns-in_ok-push_no_client-in-None
 returns-in_ok-push_no_client-in-None c = λ g s nm st.
-    show-nobody g c.args.self.now _ s c.args.client _ _ st (stands-placed g c.args.self.now s c.args.client c.place_of.result None c.deref.result.now st c.place_of.ensures c.deref.ensures.value c.in-None.is) refl
+    show-nobody g c.args.self.now _ s c.args.client _ _ st (stands-placed g c.args.self.now s c.args.client c.place_of.result None c.deref.result.now st c.place_of.ensures.first c.deref.ensures.value c.in-None.is) refl
     (c.in_ok-push_no_client-in-None.ensures ∙ ap (λ x. string_bytes c.args.out.now ++ as_text (no_client_words x (codes "show") ∷ [])) nm)
 
 pub returns-in_ok-push_book-in-Some : goal.returns-in_ok-push_book-in-Some
 returns-in_ok-push_book-in-Some c = λ g s nm st.
-    let is : IsAt g.opening c.args.self.now.clients.items s.clients c.args.client c.in-Some.at = stands-placed g c.args.self.now s c.args.client c.place_of.result (Some c.in-Some.at) c.deref.result.now st c.place_of.ensures c.deref.ensures.value c.in-Some.is in
+    let is : IsAt g.opening c.args.self.now.clients.items s.clients c.args.client c.in-Some.at = stands-placed g c.args.self.now s c.args.client c.place_of.result (Some c.in-Some.at) c.deref.result.now st c.place_of.ensures.first c.deref.ensures.value c.in-Some.is in
     show-played g c.args.self.now _ s c.args.client is.own c.book.result.now c.revs.result.now _ _ st is.there refl
     (c.book.ensures g.opening is.own (is.mirrors c.index-own.result.now c.index-own.ensures)) (c.revs.ensures g.opening is.own (is.mirrors c.index-own.result.now c.index-own.ensures)) c.in_ok-push_book-in-Some.ensures

@@ -14,4 +14,4 @@ returns c =
     let n = c.args.book in
     let rules : IsNotebook n = subst IsNotebook c.parts-parts.ensures.parts c.parts-parts.ensures.rules in
     let logs : LineUp (opening n) (cells n) c.in_ok-logs.logs.items = subst (λ m. LineUp (opening m) (cells m) c.in_ok-logs.logs.items) c.parts-parts.ensures.parts (c.in_ok-logs.ensures (subst (λ m. AllByRecursion (BeginsIn m) (cells m)) (sym c.parts-parts.ensures.parts) (all-begin n rules))) in
-    (opening-session n _ rules refl c.new.ensures.items logs c.new-2.ensures c.new-3.ensures.entries (owes-room c.new-3.result 0 c.new-3.ensures.owed c.new-3.ensures.room), c.new-3.ensures.entries)
+    (opening-session n _ rules refl c.new.ensures.items logs c.new-2.ensures c.new-3.ensures.entries c.new-3.ensures.owed (owes-room c.new-3.result 0 c.new-3.ensures.owed c.new-3.ensures.room), c.new-3.ensures.entries)

@@ -1,4 +1,4 @@
-use Rattle.std.proofs.Common.{◌≡◌, ◌≤◌, ◌+◌, refl, sym, subst, ◌∙◌, arith}
+use Rattle.std.proofs.Common.{◌≡◌, refl, sym, subst, ◌∙◌, arith}
 use Rattle.std.specs.Prelude.{is_some, ◌-◌}
 use Rattle.lanes.specs.Changes.{running_eval, stored}
 use Rattle.session_ops.specs.declared.entry.Call.TheVariants.{Respond}
@@ -7,7 +7,7 @@ use Rattle.session_core.specs.Jobs.{answer_by}
 use Rattle.session_core.specs.History.{Appends, Grows}
 use Rattle.session_core.specs.Held.{HasAnswered, history_of}
 use Rattle.session_core.specs.Session.{entry_of}
-use Rattle.session_core.proofs.HistoryLaws.{fewer}
+use Rattle.session_core.proofs.HistoryLaws.{one-fewer}
 use Rattle.session_core.proofs.SessionLaws.{same-state}
 use Rattle.session_core.proofs.EvaluationLaws.{responded-session, some-lent}
 use Rattle.session_core.proofs.held.Held.respond.Goals as goal
@@ -16,7 +16,7 @@ pub append_answer-requires-clause-owed : goal.append_answer-requires-clause-owed
 append_answer-requires-clause-owed c =
     let s = c.args.self.now in
     let js = jobs c.requires.0 (history_of s) in
-    omega (arith, fewer c.requires.1.eval js c.requires.3.out c.requires.3.is_out, c.requires.2.owed)
+    omega (arith, one-fewer c.requires.1.eval js c.requires.3.out c.requires.3.is_out c.requires.2.apart, c.requires.2.owed)
 
 pub append_answer-requires-clause-room : goal.append_answer-requires-clause-room
 append_answer-requires-clause-room c = c.requires.2.room

@@ -1,4 +1,4 @@
-use Rattle.std.proofs.Common.{refl, sym}
+use Rattle.std.proofs.Common.{refl}
 use Rattle.session_core.proofs.HistoryLaws.{grown-after}
 use Rattle.session_core.proofs.SessionLaws.{untouched, on-err}
 use Rattle.session_core.proofs.QueueLaws.{queued-session}
