@@ -5,7 +5,7 @@ mod Books
 mod Characters
 mod Drafting
 mod LineKinds
-mod OneMore
+pub mod OneMore
 pub mod ReadBack
 mod Steps
 mod Tidiness

@@ -81,7 +81,8 @@ fn opens_tildes(line: &[u8], rest: &[u8]) -> bool
 
 /// The fence that a line outside fences opens; `None` where it opens none.
 pub(crate) fn opening_of(line: &str) -> Option<Opening<'_>>
-    ensures { MatchOption result (kind_of line.now ≡ unfenced_kind line.now) (λ o. kind_of line.now ≡ Opens o.fence o.info.now) }
+    ensures { MatchOption result (kind_of line.now ≡ unfenced_kind line.now)
+        (λ o. kind_of line.now ≡ Opens o.fence o.info.now) }
 {
     let rest = behind_run(Mark::Backtick, line);
     if opens_ticks(line.as_bytes(), rest.as_bytes()) {

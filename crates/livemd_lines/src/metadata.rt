@@ -50,7 +50,8 @@ fn between(line: &str) -> Option<&str>
 
 /// The value of the member of this name.
 fn member<'a>(members: &'a Map<String, Value>, name: &str) -> Option<&'a Value>
-    ensures { option_map (λ v. view v.now) result ≡ get_member name.now (members_view members.now.entries) }
+    ensures { option_map (λ v. view v.now) result ≡ get_member name.now
+        (members_view members.now.entries) }
 {
     members.get(name)
 }
@@ -64,7 +65,8 @@ fn has_one(members: &Map<String, Value>) -> bool
 
 /// The value of the member of this name, where the object has no other member.
 fn only<'a>(members: &'a Map<String, Value>, name: &str) -> Option<&'a Value>
-    ensures { option_map (λ v. view v.now) result ≡ only name.now (members_view members.now.entries) }
+    ensures { option_map (λ v. view v.now) result ≡ only name.now
+        (members_view members.now.entries) }
 {
     if has_one(members) {
         member(members, name)

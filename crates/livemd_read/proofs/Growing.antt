@@ -14,16 +14,12 @@ use Rattle.notebook.specs.declared.parts.Kind.TheVariants as cell
 use Rattle.notebook.specs.Book.{cells_of, section_cells}
 use Rattle.notebook.specs.Rules.{code_count, code_weight}
 use Rattle.blanks.specs.Blanks.{is_empty}
+use Rattle.livemd_format.proofs.OneMore.{length-on_last}
 use Rattle.livemd_format.specs.Items as item
 use Rattle.livemd_format.specs.Made.{stem_at}
 use Rattle.livemd_format.specs.Walk.{Draft, add_cell, add_last_output, add_output, on_last, take_branch, with_cell, with_item, with_output, with_section, with_some_section}
 
 -- ---- the last element
-
-pub length-on_last : {X : Type 0} (f : X → X) (xs : List X) → length (on_last f xs) ≡ length xs
-length-on_last f [] = refl
-length-on_last f (x ∷ []) = refl
-length-on_last f (x ∷ y ∷ xs) = ap (λ n. suc n) (length-on_last f (y ∷ xs))
 
 -- what a change of the last element doesn't touch
 pub map-on_last : {X Y : Type 0} (g : X → Y) (f : X → X) → ((x : X) → g (f x) ≡ g x) → (xs : List X) → map g (on_last f xs) ≡ map g xs

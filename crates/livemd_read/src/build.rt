@@ -28,8 +28,10 @@ fn drafted(alloc: Global, items: &[Item<'_>]) -> Result<Draft, AllocError>
 pub(crate) fn built(alloc: Global, items: &[Item<'_>]) -> Result<Read, AllocError>
     requires sections { HasFewSections (fold with_item new_draft (views items.now)).parts }
     requires cells { HasFewCells (fold with_item new_draft (views items.now)).parts }
-    ensures notebook { IfOk result (λ r. r.notebook ≡ finished (fold with_item new_draft (views items.now))) }
-    ensures notices { IfOk result (λ r. r.notices ≡ (fold with_item new_draft (views items.now)).notices) }
+    ensures notebook { IfOk result
+        (λ r. r.notebook ≡ finished (fold with_item new_draft (views items.now))) }
+    ensures notices { IfOk result
+        (λ r. r.notices ≡ (fold with_item new_draft (views items.now)).notices) }
 {
     let draft = drafted(alloc, items)?;
     let Draft {

@@ -12,7 +12,8 @@ use crate::items::Item;
 fn sections_with(count: usize, item: &Item<'_>) -> usize
     requires { count < 2 ^ 63 }
     ensures bound { result ≤ count + 1 }
-    ensures value { (d : Draft) → length d.parts.sections ≡ count → length (with_item d (item_of item.now)).parts.sections ≡ result }
+    ensures value { (d : Draft) → length d.parts.sections ≡ count
+        → length (with_item d (item_of item.now)).parts.sections ≡ result }
 {
     match item {
         Item::Section(_) => count + 1,
@@ -25,7 +26,8 @@ fn sections_with(count: usize, item: &Item<'_>) -> usize
 fn cells_with(count: usize, item: &Item<'_>) -> usize
     requires { count < 2 ^ 63 }
     ensures bound { result ≤ count + 1 }
-    ensures value { (d : Draft) → length (section_cells d.parts) ≡ count → length (section_cells (with_item d (item_of item.now)).parts) ≡ result }
+    ensures value { (d : Draft) → length (section_cells d.parts) ≡ count
+        → length (section_cells (with_item d (item_of item.now)).parts) ≡ result }
 {
     match item {
         Item::Code(_) | Item::Markdown(_) => count + 1,
@@ -37,7 +39,8 @@ fn cells_with(count: usize, item: &Item<'_>) -> usize
 fn code_cells_with(count: usize, item: &Item<'_>) -> usize
     requires { count < 2 ^ 63 }
     ensures bound { result ≤ count + 1 }
-    ensures value { (d : Draft) → code_count (section_cells d.parts) ≡ count → code_count (section_cells (with_item d (item_of item.now)).parts) ≡ result }
+    ensures value { (d : Draft) → code_count (section_cells d.parts) ≡ count
+        → code_count (section_cells (with_item d (item_of item.now)).parts) ≡ result }
 {
     match item {
         Item::Code(_) => count + 1,
@@ -69,7 +72,8 @@ pub(crate) fn cell_count(items: &[Item<'_>]) -> usize
 
 /// How many code cells the notebook of settled items has in its sections.
 pub(crate) fn code_cell_count(items: &[Item<'_>]) -> usize
-    ensures { result ≡ code_count (section_cells (fold with_item new_draft (views items.now)).parts) }
+    ensures { result ≡ code_count
+        (section_cells (fold with_item new_draft (views items.now)).parts) }
 {
     let mut count: usize = 0;
     for item in items {

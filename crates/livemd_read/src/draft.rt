@@ -145,7 +145,8 @@ impl Draft {
     }
 
     fn take_name(&mut self, alloc: Global, name: &str) -> Result<(), AllocError>
-        ensures ok { OnOk result (draft_of self.new ≡ take_name (chars name.now) (draft_of self.old)) }
+        ensures ok { OnOk result
+            (draft_of self.new ≡ take_name (chars name.now) (draft_of self.old)) }
     {
         self.parts.name = Text::of(alloc, name)?;
         self.parts.before = self.take_waiting(alloc);
@@ -154,7 +155,8 @@ impl Draft {
 
     fn take_section(&mut self, alloc: Global, name: &str) -> Result<(), AllocError>
         requires { self.old.parts.next_section < 2 ^ 63 }
-        ensures ok { OnOk result (draft_of self.new ≡ take_section (chars name.now) (draft_of self.old)) }
+        ensures ok { OnOk result
+            (draft_of self.new ≡ take_section (chars name.now) (draft_of self.old)) }
     {
         let before = self.take_waiting(alloc);
         push_section(alloc, &mut self.parts, name, before, self.parent)?;
@@ -163,7 +165,8 @@ impl Draft {
     }
 
     fn take_setup(&mut self, alloc: Global, source: &str) -> Result<(), AllocError>
-        ensures ok { OnOk result (draft_of self.new ≡ take_setup (chars source.now) (draft_of self.old)) }
+        ensures ok { OnOk result
+            (draft_of self.new ≡ take_setup (chars source.now) (draft_of self.old)) }
     {
         self.parts.setup.source = Text::of(alloc, source)?;
         self.parts.setup.before = self.take_waiting(alloc);
@@ -173,7 +176,8 @@ impl Draft {
     fn take_cell(&mut self, alloc: Global, kind: Kind, source: &str) -> Result<(), AllocError>
         requires sections { self.old.parts.next_section < 2 ^ 63 }
         requires cells { self.old.parts.next_cell < 2 ^ 63 }
-        ensures ok { OnOk result (draft_of self.new ≡ take_cell kind (chars source.now) (draft_of self.old)) }
+        ensures ok { OnOk result
+            (draft_of self.new ≡ take_cell kind (chars source.now) (draft_of self.old)) }
     {
         let before = self.take_waiting(alloc);
         need_section(alloc, &mut self.parts)?;
@@ -208,7 +212,9 @@ impl Draft {
     }
 
     fn take_output(&mut self, alloc: Global, info: &str, text: &str) -> Result<(), AllocError>
-        ensures ok { OnOk result (draft_of self.new ≡ take_output (chars info.now) (chars text.now) (draft_of self.old)) }
+        ensures ok { OnOk result
+            (draft_of self.new ≡ take_output (chars info.now) (chars text.now)
+            (draft_of self.old)) }
     {
         let output = Saved {
             info: Text::of(alloc, info)?,
@@ -222,7 +228,8 @@ impl Draft {
     pub(crate) fn take(&mut self, alloc: Global, item: &Item<'_>) -> Result<(), AllocError>
         requires sections { self.old.parts.next_section < 2 ^ 63 }
         requires cells { self.old.parts.next_cell < 2 ^ 63 }
-        ensures ok { OnOk result (draft_of self.new ≡ with_item (draft_of self.old) (item_of item.now)) }
+        ensures ok { OnOk result
+            (draft_of self.new ≡ with_item (draft_of self.old) (item_of item.now)) }
     {
         match item {
             Item::Name(name) => self.take_name(alloc, name),

@@ -90,7 +90,8 @@ pub(crate) fn with_line(
     source: Option<String>,
     line: &str,
 ) -> Result<String, AllocError>
-    ensures { IfOk result (λ s. string_bytes s ≡ source_after (option_map string_bytes source) line.now) }
+    ensures { IfOk result
+        (λ s. string_bytes s ≡ source_after (option_map string_bytes source) line.now) }
 {
     match source {
         None => String::from_str(alloc, line),

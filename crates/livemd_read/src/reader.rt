@@ -14,7 +14,8 @@ use std::alloc::Global;
 
 /// Reads a book. A refusal names the first cause in the order of [`BookError`].
 pub fn read(alloc: Global, bytes: &[u8]) -> Result<Read, BookError>
-    ensures read { MatchResult result (λ r. Reads bytes.now r.notebook r.notices) (IsBookCause bytes.now) }
+    ensures read { MatchResult result (λ r. Reads bytes.now r.notebook r.notices)
+        (IsBookCause bytes.now) }
     ensures accepted { OnOk result (IsAccepted bytes.now) }
 {
     if bytes.len() > MOST_FILE_BYTES {

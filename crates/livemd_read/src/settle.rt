@@ -59,7 +59,8 @@ impl Behind {
 
     /// What the item tells together with those behind it.
     fn with(self, item: &Item<'_>) -> Behind
-        ensures { (is : List format.Item) → IsBehind self is → IsBehind result (item_of item.now ∷ is) }
+        ensures { (is : List format.Item) → IsBehind self is
+            → IsBehind result (item_of item.now ∷ is) }
     {
         let between = is_between(item);
         Behind {
@@ -71,7 +72,8 @@ impl Behind {
 
     /// What a branch line is.
     fn branch_line<'a>(self, line: u64, index: u64) -> Item<'a>
-        ensures { (is : List format.Item) → IsBehind self is → item_of result ≡ settle (format.Branch line index) is }
+        ensures { (is : List format.Item) → IsBehind self is
+            → item_of result ≡ settle (format.Branch line index) is }
     {
         if !self.section {
             Item::Misplaced { line }
@@ -84,7 +86,8 @@ impl Behind {
 
     /// What a stamp is.
     fn stamp(self, line: &str) -> Item<'_>
-        ensures { (is : List format.Item) → IsBehind self is → item_of result ≡ settle (format.Stamp line.now) is }
+        ensures { (is : List format.Item) → IsBehind self is
+            → item_of result ≡ settle (format.Stamp line.now) is }
     {
         if self.last {
             Item::Dropped
@@ -95,7 +98,8 @@ impl Behind {
 
     /// The item, settled.
     fn settle<'a>(self, item: Item<'a>) -> Item<'a>
-        ensures { (is : List format.Item) → IsBehind self is → item_of result ≡ settle (item_of item.entry) is }
+        ensures { (is : List format.Item) → IsBehind self is
+            → item_of result ≡ settle (item_of item.entry) is }
     {
         match item {
             Item::Branch { line, index } => self.branch_line(line, index),

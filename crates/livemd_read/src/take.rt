@@ -53,7 +53,9 @@ fn open_text<'a>(alloc: Global, line: &Line<'_>) -> Result<Open<'a>, AllocError>
 /// Puts an item of one line at the end.
 fn push_line<'a>(done: &mut Done<'a>, item: Item<'a>) -> Result<Open<'a>, AllocError>
     requires { IsDone done.old }
-    ensures { IfOk result (λ after. (number : ℕ) → Cuts done.old done.new after number (λ _. one_line (item_of item.entry))) }
+    ensures { IfOk result
+        (λ after. (number : ℕ)
+        → Cuts done.old done.new after number (λ _. one_line (item_of item.entry))) }
 {
     done.push(item)?;
     Ok(Open::Nothing)
@@ -67,7 +69,10 @@ fn begin_fence<'a>(
     line: &Line<'_>,
 ) -> Result<Open<'a>, AllocError>
     requires text { is_blank line.now.text.now ≡ false }
-    ensures { IfOk result (λ after. (done : Done) (number : ℕ) → IsDone done → Cuts done done after number (cut_by (Opens fence info.now) (cut_of done) number (line_view line.now))) }
+    ensures { IfOk result
+        (λ after. (done : Done) (number : ℕ) → IsDone done
+        → Cuts done done after number
+        (cut_by (Opens fence info.now) (cut_of done) number (line_view line.now))) }
 {
     if is_code(fence, info) {
         return Ok(Open::Fence {
@@ -87,7 +92,10 @@ fn begin_heading<'a>(
 ) -> Result<Open<'a>, AllocError>
     requires done { IsDone done.old }
     requires text { is_blank line.now.text.now ≡ false }
-    ensures { IfOk result (λ after. (number : ℕ) → Cuts done.old done.new after number (cut_by (Heading1 name.now) (cut_of done.old) number (line_view line.now))) }
+    ensures { IfOk result
+        (λ after. (number : ℕ)
+        → Cuts done.old done.new after number
+        (cut_by (Heading1 name.now) (cut_of done.old) number (line_view line.now))) }
 {
     if done.at_name {
         push_line(done, Item::Name(name))
@@ -99,7 +107,8 @@ fn begin_heading<'a>(
 /// Begins with an output line.
 fn begin_output<'a>(done: &mut Done<'a>, number: u64) -> Result<Open<'a>, AllocError>
     requires { IsDone done.old }
-    ensures { IfOk result (λ after. Cuts done.old done.new after number (output_at (cut_of done.old) number)) }
+    ensures { IfOk result
+        (λ after. Cuts done.old done.new after number (output_at (cut_of done.old) number)) }
 {
     if done.after_code {
         Ok(Open::OutputLine { line: number })
@@ -116,7 +125,9 @@ fn begin_metadata<'a>(
     line: &Line<'a>,
 ) -> Result<Open<'a>, AllocError>
     requires { IsDone done.old }
-    ensures { IfOk result (λ after. Cuts done.old done.new after number (cut_metadata meaning (cut_of done.old) number (line_view line.now))) }
+    ensures { IfOk result
+        (λ after. Cuts done.old done.new after number (cut_metadata meaning (cut_of done.old) number
+        (line_view line.now))) }
 {
     match meaning {
         Metadata::BranchParentIndex(index) => {
@@ -145,7 +156,9 @@ fn begin_item<'a>(
 ) -> Result<Open<'a>, AllocError>
     requires done { IsDone done.old }
     requires text { is_blank line.now.text.now ≡ false }
-    ensures { IfOk result (λ after. Cuts done.old done.new after number (cut (cut_of done.old) number (line_view line.now))) }
+    ensures { IfOk result
+        (λ after. Cuts done.old done.new after number (cut (cut_of done.old) number
+        (line_view line.now))) }
 {
     match line.kind {
         LineKind::Opens { fence, info } => begin_fence(alloc, fence, info, line),
@@ -166,7 +179,8 @@ fn begin<'a>(
     line: &Line<'a>,
 ) -> Result<Open<'a>, AllocError>
     requires { IsDone done.old }
-    ensures { IfOk result (λ after. Takes done.old Open.Nothing done.new after number (line_view line.now)) }
+    ensures { IfOk result
+        (λ after. Takes done.old Open.Nothing done.new after number (line_view line.now)) }
 {
     if line.is_blank() {
         return Ok(Open::Nothing);
@@ -176,7 +190,9 @@ fn begin<'a>(
 
 /// Takes a line behind a forcing line that no text stands before.
 fn after_force<'a>(alloc: Global, line: &Line<'_>) -> Result<Open<'a>, AllocError>
-    ensures { IfOk result (λ after. (done : Done) (number : ℕ) → IsDone done → Takes done Open.Forced done after number (line_view line.now)) }
+    ensures { IfOk result
+        (λ after. (done : Done) (number : ℕ) → IsDone done
+        → Takes done Open.Forced done after number (line_view line.now)) }
 {
     if line.is_blank() {
         return Ok(Open::Forced);
@@ -186,7 +202,9 @@ fn after_force<'a>(alloc: Global, line: &Line<'_>) -> Result<Open<'a>, AllocErro
 
 /// Takes a line while Markdown text is open and the line is forced.
 fn go_on_forced<'a>(passage: Passage, line: &Line<'_>) -> Result<Open<'a>, AllocError>
-    ensures { IfOk result (λ after. (done : Done) (number : ℕ) → IsDone done → Takes done (Open.Text passage true) done after number (line_view line.now)) }
+    ensures { IfOk result
+        (λ after. (done : Done) (number : ℕ) → IsDone done
+        → Takes done (Open.Text passage true) done after number (line_view line.now)) }
 {
     if line.is_blank() {
         return Ok(Open::Text {
@@ -209,7 +227,9 @@ fn go_on<'a>(
     line: &Line<'a>,
 ) -> Result<Open<'a>, AllocError>
     requires { IsDone done.old }
-    ensures { IfOk result (λ after. Takes done.old (Open.Text passage false) done.new after number (line_view line.now)) }
+    ensures { IfOk result
+        (λ after. Takes done.old (Open.Text passage false) done.new after number
+        (line_view line.now)) }
 {
     if is_force(&line.kind) {
         return Ok(Open::Text {
@@ -229,7 +249,8 @@ fn go_on<'a>(
 
 /// The item of a fence.
 fn fenced_item<'a>(is_setup: bool, what: Content<'a>, text: String) -> Item<'a>
-    ensures { (done : List format.Item) → is_setup ≡ at_setup done → item_of result ≡ fenced_item done what.entry (string_bytes text) }
+    ensures { (done : List format.Item) → is_setup ≡ at_setup done
+        → item_of result ≡ fenced_item done what.entry (string_bytes text) }
 {
     match what {
         Content::Code if is_setup => Item::Setup(text),
@@ -246,7 +267,9 @@ fn push_fence<'a>(
     source: Option<String>,
 ) -> Result<(), AllocError>
     requires { IsDone done.old }
-    ensures items { OnOk result (cut_of done.new ≡ cut_of done.old ++ fenced_item (cut_of done.old) what.entry (unwrap_or (option_map string_bytes source) []) ∷ []) }
+    ensures items { OnOk result
+        (cut_of done.new ≡ cut_of done.old ++ fenced_item (cut_of done.old) what.entry
+        (unwrap_or (option_map string_bytes source) []) ∷ []) }
     ensures done { OnOk result (IsDone done.new) }
 {
     let text = source.unwrap_or(String::new(alloc));
@@ -265,7 +288,9 @@ fn go_on_in_fence<'a>(
     line: &Line<'a>,
 ) -> Result<Open<'a>, AllocError>
     requires { IsDone done.old }
-    ensures { IfOk result (λ after. Takes done.old (Open.Fence what.entry source) done.new after number (line_view line.now)) }
+    ensures { IfOk result
+        (λ after. Takes done.old (Open.Fence what.entry source) done.new after number
+        (line_view line.now)) }
 {
     if is_inside(&line.kind) {
         return Ok(Open::Fence {
@@ -290,7 +315,9 @@ fn after_output_line<'a>(
 ) -> Result<Open<'a>, AllocError>
     requires done { IsDone done.old }
     requires text { is_blank line.now.text.now ≡ false }
-    ensures { IfOk result (λ after. Takes done.old (Open.OutputLine output) done.new after number (line_view line.now)) }
+    ensures { IfOk result
+        (λ after. Takes done.old (Open.OutputLine output) done.new after number
+        (line_view line.now)) }
 {
     if let LineKind::Opens { fence: _, info } = line.kind {
         return Ok(Open::Fence {
@@ -311,7 +338,9 @@ fn await_fence<'a>(
     line: &Line<'a>,
 ) -> Result<Open<'a>, AllocError>
     requires { IsDone done.old }
-    ensures { IfOk result (λ after. Takes done.old (Open.OutputLine output) done.new after number (line_view line.now)) }
+    ensures { IfOk result
+        (λ after. Takes done.old (Open.OutputLine output) done.new after number
+        (line_view line.now)) }
 {
     if line.is_blank() {
         return Ok(Open::OutputLine { line: output });
@@ -328,7 +357,8 @@ fn take<'a>(
     line: &Line<'a>,
 ) -> Result<Open<'a>, AllocError>
     requires { IsDone done.old }
-    ensures { IfOk result (λ after. Takes done.old pending.entry done.new after number (line_view line.now)) }
+    ensures { IfOk result
+        (λ after. Takes done.old pending.entry done.new after number (line_view line.now)) }
 {
     match pending {
         Open::Nothing => begin(alloc, done, number, line),
@@ -348,7 +378,8 @@ fn take<'a>(
 /// Ends what is open where no line is left.
 fn finish<'a>(alloc: Global, done: &mut Done<'a>, pending: Open<'a>) -> Result<(), AllocError>
     requires { IsDone done.old }
-    ensures ok { OnOk result ((number : ℕ) → cut_of done.new ≡ resume (cut_of done.old) pending.entry number []) }
+    ensures ok { OnOk result
+        ((number : ℕ) → cut_of done.new ≡ resume (cut_of done.old) pending.entry number []) }
 {
     match pending {
         Open::Nothing => Ok(()),

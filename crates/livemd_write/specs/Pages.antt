@@ -1,5 +1,6 @@
 -- The text of blocks, as they are put one behind the other.
-use Rattle.std.specs.Prelude.{◌≡◌, ℕ, Bool, false, List, [], ◌∷◌, ◌++◌, codes, encode_utf8_all, filter}
+use Rattle.std.specs.Prelude.{◌≡◌, ℕ, Bool, false, List, [], ◌∷◌, ◌++◌, codes, encode_utf8_all, filter, String, string_bytes}
+use Rattle.std.specs.declared.alloc.Global.{Global}
 use Rattle.notebook.specs.declared.parts.Cell.{Cell}
 use Rattle.notebook.specs.declared.parts.Section.{Section}
 use Rattle.livemd_lines.specs.Written.{text_of_lines}
@@ -14,6 +15,10 @@ blocks_text (b ∷ bs) = 10 ∷ (text_of_lines b ++ blocks_text bs)
 -- the blocks are put behind what was there
 abbrev pub Puts : List ℕ → List Block → List ℕ → Type 0
 Puts old bs new = new ≡ old ++ blocks_text bs
+
+-- the same, behind a text in memory
+abbrev pub PutsIn : List Block → String Global → String Global → Type 0
+PutsIn bs old new = Puts (string_bytes old) bs (string_bytes new)
 
 -- the tidy form of a cell is put if it stays, and then those of the next ones follow
 abbrev pub PutsCellText : List ℕ → Bool → Cell → List ℕ → Bool → Type 0

@@ -1,9 +1,8 @@
 //! Fences round texts.
 ghost use Rattle.std.specs.Prelude.{◌≡◌, ◌==◌, ◌<◌, ◌≤◌, ◌-◌, ◌^◌, ◌+◌, ◌∷◌, [], if◌then◌else◌, length, OnOk};
-ghost use Rattle.std.specs.String.{string_bytes};
 ghost use Rattle.livemd_lines.specs.Written.{longest_run};
 ghost use Rattle.livemd_format.specs.Write.{fence_block, fence_len};
-ghost use Rattle.livemd_write.specs.Pages.{Puts};
+ghost use Rattle.livemd_write.specs.Pages.{PutsIn};
 
 use crate::texts::push_marks;
 use livemd_lines::Mark;
@@ -40,7 +39,7 @@ fn fence_len(text: &str) -> usize
 
 /// Puts a text in a fence with the info, as a block.
 pub(crate) fn push_fence(out: &mut String, info: &str, text: &str) -> Result<(), AllocError>
-    ensures ok { OnOk result (Puts (string_bytes out.old) (fence_block info.now text.now ∷ []) (string_bytes out.new)) }
+    ensures ok { OnOk result (PutsIn (fence_block info.now text.now ∷ []) out.old out.new) }
 {
     let count = fence_len(text);
     out.push_str("\n")?;

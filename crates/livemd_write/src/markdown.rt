@@ -6,6 +6,7 @@ ghost use Rattle.livemd_lines.specs.Views.{line_view};
 ghost use Rattle.livemd_format.specs.Tidy.{clean_pieces, tidy_markdown};
 ghost use Rattle.livemd_write.specs.Passages.{IsPassage, LineTaken};
 ghost use Rattle.livemd_write.specs.Texts.{closing_text};
+ghost use Rattle.utf16_text.specs.Appended.{Appends};
 
 use crate::texts::push_marks;
 use livemd_lines::{Fence, Line};
@@ -29,7 +30,7 @@ struct Passage {
 
 /// Closes the fence that is open, if one is.
 fn close(out: &mut String, left: Option<Fence>) -> Result<(), AllocError>
-    ensures ok { OnOk result (string_bytes out.new ≡ string_bytes out.old ++ closing_text left) }
+    ensures ok { OnOk result (Appends (closing_text left) out.old out.new) }
 {
     match left {
         None => Ok(()),
@@ -42,7 +43,8 @@ fn close(out: &mut String, left: Option<Fence>) -> Result<(), AllocError>
 
 /// Puts a line at the end of a text, behind a line feed if it isn't the first.
 fn push_line(text: &mut String, begun: bool, line: &str) -> Result<(), AllocError>
-    ensures ok { OnOk result (string_bytes text.new ≡ string_bytes text.old ++ (if begun then 10 ∷ line.now else line.now)) }
+    ensures ok { OnOk result
+        (Appends (if begun then 10 ∷ line.now else line.now) text.old text.new) }
 {
     if begun {
         text.push_str("\n")?;
@@ -94,7 +96,9 @@ impl Passage {
 
     /// Takes the line that a piece of the text is.
     fn take(&mut self, alloc: Global, piece: &str) -> Result<(), AllocError>
-        ensures ok { OnOk result ((seen : List (List ℕ)) → IsPassage seen self.old → IsPassage (seen ++ drop_end is_cr piece.now ∷ []) self.new) }
+        ensures ok { OnOk result
+            ((seen : List (List ℕ)) → IsPassage seen self.old
+            → IsPassage (seen ++ drop_end is_cr piece.now ∷ []) self.new) }
     {
         let line = Line::of(alloc, self.around, piece)?;
         if line.is_blank() {

@@ -1,5 +1,5 @@
 //! The blocks of a notebook, put one behind the other, each behind an empty line.
-ghost use Rattle.std.specs.Prelude.{◌≡◌, ◌&&◌, ◌<◌, ◌≤◌, ◌++◌, ◌∷◌, [], false, encode_utf8_all, map, IfOk, OnOk, string_bytes};
+ghost use Rattle.std.specs.Prelude.{◌≡◌, ◌&&◌, ◌<◌, ◌++◌, ◌∷◌, [], false, encode_utf8_all, map, IfOk, OnOk, string_bytes};
 ghost use Rattle.std.specs.List.{AllByRecursion, flat_map};
 ghost use Rattle.utf16_text.specs.Units.{AreScalars};
 ghost use Rattle.blanks.specs.Blanks.{is_empty};
@@ -10,8 +10,9 @@ ghost use Rattle.livemd_lines.specs.Written.{text_of_lines};
 ghost use Rattle.livemd_format.specs.RoundTrip.{AreCellTexts, AreSectionTexts, AreTexts};
 ghost use Rattle.livemd_format.specs.Tidy.{changed, is_markdown, number_from, tidied, tidy_before, tidy_cell, tidy_cells, tidy_name};
 ghost use Rattle.livemd_format.specs.Write.{blocks, branch_blocks, branch_line, break_blocks, cell_blocks, code_blocks, force, forced_lines, kept_blocks, line_block, markdown_block, own_blocks, saved_blocks, setup_blocks};
-ghost use Rattle.livemd_write.specs.Pages.{Puts, PutsCellText, tidy_section_blocks};
+ghost use Rattle.livemd_write.specs.Pages.{PutsCellText, tidy_section_blocks, PutsIn};
 ghost use Rattle.livemd_write.specs.Told.{told, told_cell, told_section};
+ghost use Rattle.utf16_text.specs.Appended.{Appends};
 
 use crate::cells::{is_markdown, stays, tidy_body, tidy_cell};
 use crate::fences::push_fence;
@@ -25,7 +26,7 @@ use utf16_text::Text;
 
 /// Puts a line as a block.
 fn push_line(out: &mut String, line: &str) -> Result<(), AllocError>
-    ensures ok { OnOk result (Puts (string_bytes out.old) (line_block line.now ∷ []) (string_bytes out.new)) }
+    ensures ok { OnOk result (PutsIn (line_block line.now ∷ []) out.old out.new) }
 {
     out.push_str("\n")?;
     out.push_str(line)?;
@@ -35,7 +36,8 @@ fn push_line(out: &mut String, line: &str) -> Result<(), AllocError>
 
 /// Puts a heading with the mark as a block.
 fn push_heading(out: &mut String, mark: &str, name: &Text) -> Result<(), AllocError>
-    ensures ok { OnOk result (Puts (string_bytes out.old) (line_block (mark.now ++ encode_utf8_all name.now) ∷ []) (string_bytes out.new)) }
+    ensures ok { OnOk result
+        (PutsIn (line_block (mark.now ++ encode_utf8_all name.now) ∷ []) out.old out.new) }
 {
     out.push_str("\n")?;
     out.push_str(mark)?;
@@ -46,7 +48,7 @@ fn push_heading(out: &mut String, mark: &str, name: &Text) -> Result<(), AllocEr
 
 /// Puts kept lines, each as a block.
 fn push_kept(out: &mut String, before: &[Text]) -> Result<(), AllocError>
-    ensures ok { OnOk result (Puts (string_bytes out.old) (kept_blocks before.now) (string_bytes out.new)) }
+    ensures ok { OnOk result (PutsIn (kept_blocks before.now) out.old out.new) }
 {
     for line in before {
         push_line(out, line.as_str())?;
@@ -56,7 +58,7 @@ fn push_kept(out: &mut String, before: &[Text]) -> Result<(), AllocError>
 
 /// Puts the tidy form of kept lines, each as a block.
 fn push_tidy_kept(alloc: Global, out: &mut String, before: &[Text]) -> Result<(), AllocError>
-    ensures ok { OnOk result (Puts (string_bytes out.old) (kept_blocks (tidy_before before.now)) (string_bytes out.new)) }
+    ensures ok { OnOk result (PutsIn (kept_blocks (tidy_before before.now)) out.old out.new) }
     ensures characters { OnOk result (AllByRecursion AreScalars before.now) }
 {
     for line in before {
@@ -68,7 +70,7 @@ fn push_tidy_kept(alloc: Global, out: &mut String, before: &[Text]) -> Result<()
 
 /// Puts the branch line with the index as a block.
 fn push_branch_line(out: &mut String, index: u64) -> Result<(), AllocError>
-    ensures ok { OnOk result (Puts (string_bytes out.old) (line_block (branch_line index) ∷ []) (string_bytes out.new)) }
+    ensures ok { OnOk result (PutsIn (line_block (branch_line index) ∷ []) out.old out.new) }
 {
     let mut buffer = Buffer::new();
     out.push_str("\n<!-- livebook:{\"branch_parent_index\":")?;
@@ -79,7 +81,7 @@ fn push_branch_line(out: &mut String, index: u64) -> Result<(), AllocError>
 
 /// Puts a saved output.
 fn push_output(out: &mut String, output: &Saved) -> Result<(), AllocError>
-    ensures ok { OnOk result (Puts (string_bytes out.old) (saved_blocks output.now) (string_bytes out.new)) }
+    ensures ok { OnOk result (PutsIn (saved_blocks output.now) out.old out.new) }
 {
     push_line(out, "<!-- livebook:{\"output\":true} -->")?;
     push_fence(out, output.info.as_str(), output.text.as_str())?;
@@ -88,7 +90,7 @@ fn push_output(out: &mut String, output: &Saved) -> Result<(), AllocError>
 
 /// Puts saved outputs.
 fn push_saved(out: &mut String, saved: &[Saved]) -> Result<(), AllocError>
-    ensures ok { OnOk result (Puts (string_bytes out.old) (flat_map saved_blocks saved.now) (string_bytes out.new)) }
+    ensures ok { OnOk result (PutsIn (flat_map saved_blocks saved.now) out.old out.new) }
 {
     for output in saved {
         push_output(out, output)?;
@@ -98,7 +100,7 @@ fn push_saved(out: &mut String, saved: &[Saved]) -> Result<(), AllocError>
 
 /// Puts code and its saved outputs.
 fn push_code(out: &mut String, cell: &Cell) -> Result<(), AllocError>
-    ensures ok { OnOk result (Puts (string_bytes out.old) (code_blocks cell.now) (string_bytes out.new)) }
+    ensures ok { OnOk result (PutsIn (code_blocks cell.now) out.old out.new) }
 {
     push_fence(out, "elixir", cell.source.as_str())?;
     push_saved(out, cell.saved.as_slice())?;
@@ -107,7 +109,8 @@ fn push_code(out: &mut String, cell: &Cell) -> Result<(), AllocError>
 
 /// Puts what a line of the kind needs before it.
 fn push_force(out: &mut String, kind: &LineKind<'_>) -> Result<(), AllocError>
-    ensures ok { OnOk result (string_bytes out.new ≡ string_bytes out.old ++ text_of_lines (force (kind_view kind.now))) }
+    ensures ok { OnOk result
+        (Appends (text_of_lines (force (kind_view kind.now))) out.old out.new) }
 {
     if may_stand(kind) {
         return Ok(());
@@ -118,7 +121,8 @@ fn push_force(out: &mut String, kind: &LineKind<'_>) -> Result<(), AllocError>
 
 /// Puts a line of Markdown text behind what it needs.
 fn push_forced(out: &mut String, line: &Line<'_>) -> Result<(), AllocError>
-    ensures ok { OnOk result (string_bytes out.new ≡ string_bytes out.old ++ text_of_lines (forced_lines (line_view line.now ∷ []))) }
+    ensures ok { OnOk result
+        (Appends (text_of_lines (forced_lines (line_view line.now ∷ []))) out.old out.new) }
 {
     push_force(out, &line.kind)?;
     out.push_str(line.text)?;
@@ -128,7 +132,8 @@ fn push_forced(out: &mut String, line: &Line<'_>) -> Result<(), AllocError>
 
 /// Puts the lines of Markdown text.
 fn push_lines(alloc: Global, out: &mut String, source: &str) -> Result<(), AllocError>
-    ensures ok { OnOk result (string_bytes out.new ≡ string_bytes out.old ++ text_of_lines (forced_lines (kinds_of (lines source.now)))) }
+    ensures ok { OnOk result
+        (Appends (text_of_lines (forced_lines (kinds_of (lines source.now)))) out.old out.new) }
 {
     let mut around = None;
     for piece in source.lines() {
@@ -141,7 +146,7 @@ fn push_lines(alloc: Global, out: &mut String, source: &str) -> Result<(), Alloc
 
 /// Puts Markdown text as a block.
 fn push_markdown(alloc: Global, out: &mut String, source: &str) -> Result<(), AllocError>
-    ensures ok { OnOk result (Puts (string_bytes out.old) (markdown_block source.now ∷ []) (string_bytes out.new)) }
+    ensures ok { OnOk result (PutsIn (markdown_block source.now ∷ []) out.old out.new) }
 {
     out.push_str("\n")?;
     push_lines(alloc, out, source)?;
@@ -150,7 +155,7 @@ fn push_markdown(alloc: Global, out: &mut String, source: &str) -> Result<(), Al
 
 /// Puts a cell's own blocks.
 fn push_own(alloc: Global, out: &mut String, cell: &Cell) -> Result<(), AllocError>
-    ensures ok { OnOk result (Puts (string_bytes out.old) (own_blocks cell.now) (string_bytes out.new)) }
+    ensures ok { OnOk result (PutsIn (own_blocks cell.now) out.old out.new) }
 {
     if is_markdown(cell.kind) {
         push_markdown(alloc, out, cell.source.as_str())
@@ -168,7 +173,7 @@ fn needs_break(cell: &Cell) -> bool
 
 /// Puts a break between two Markdown cells where no kept line ends the first.
 fn push_break(out: &mut String, after_markdown: bool, cell: &Cell) -> Result<(), AllocError>
-    ensures ok { OnOk result (Puts (string_bytes out.old) (break_blocks after_markdown cell.now) (string_bytes out.new)) }
+    ensures ok { OnOk result (PutsIn (break_blocks after_markdown cell.now) out.old out.new) }
 {
     if after_markdown && needs_break(cell) {
         return push_line(out, "<!-- livebook:{\"break_markdown\":true} -->");
@@ -183,7 +188,8 @@ fn push_tidy_cell(
     after_markdown: bool,
     cell: &Cell,
 ) -> Result<bool, AllocError>
-    ensures puts { IfOk result (PutsCellText (string_bytes out.old) after_markdown cell.now (string_bytes out.new)) }
+    ensures puts { IfOk result
+        (PutsCellText (string_bytes out.old) after_markdown cell.now (string_bytes out.new)) }
     ensures characters { OnOk result (AreCellTexts (told_cell cell.now)) }
 {
     let body = tidy_body(alloc, cell)?;
@@ -198,7 +204,7 @@ fn push_tidy_cell(
 
 /// Puts the tidy form of the cells of a section, one after the other, so that no more than one is held.
 fn push_tidy_cells(alloc: Global, out: &mut String, cells: &[Cell]) -> Result<(), AllocError>
-    ensures ok { OnOk result (Puts (string_bytes out.old) (cell_blocks false (tidy_cells cells.now)) (string_bytes out.new)) }
+    ensures ok { OnOk result (PutsIn (cell_blocks false (tidy_cells cells.now)) out.old out.new) }
     ensures characters { OnOk result (AllByRecursion AreCellTexts (map told_cell cells.now)) }
 {
     let mut after_markdown = false;
@@ -210,14 +216,15 @@ fn push_tidy_cells(alloc: Global, out: &mut String, cells: &[Cell]) -> Result<()
 
 /// Whether there is nothing of the setup cell.
 fn is_nothing(cell: &Cell) -> bool
-    ensures { result ≡ (is_empty cell.now.source && (is_empty cell.now.before && is_empty cell.now.saved)) }
+    ensures { result ≡
+        (is_empty cell.now.source && (is_empty cell.now.before && is_empty cell.now.saved)) }
 {
     cell.source.is_empty() && cell.before.is_empty() && cell.saved.is_empty()
 }
 
 /// Puts the setup cell, unless there is nothing of it.
 fn push_setup(out: &mut String, cell: &Cell) -> Result<(), AllocError>
-    ensures ok { OnOk result (Puts (string_bytes out.old) (setup_blocks cell.now) (string_bytes out.new)) }
+    ensures ok { OnOk result (PutsIn (setup_blocks cell.now) out.old out.new) }
 {
     if is_nothing(cell) {
         return Ok(());
@@ -247,7 +254,7 @@ fn push_branch(
     all: &[Section],
     parent: Option<SectionId>,
 ) -> Result<(), AllocError>
-    ensures ok { OnOk result (Puts (string_bytes out.old) (branch_blocks all.now parent) (string_bytes out.new)) }
+    ensures ok { OnOk result (PutsIn (branch_blocks all.now parent) out.old out.new) }
 {
     match parent {
         None => Ok(()),
@@ -262,7 +269,9 @@ fn push_tidy_heading(
     mark: &str,
     name: &Text,
 ) -> Result<(), AllocError>
-    ensures ok { OnOk result (Puts (string_bytes out.old) (line_block (mark.now ++ encode_utf8_all (changed tidy_name name.now)) ∷ []) (string_bytes out.new)) }
+    ensures ok { OnOk result
+        (PutsIn (line_block (mark.now ++ encode_utf8_all (changed tidy_name name.now)) ∷ []) out.old
+        out.new) }
     ensures characters { OnOk result (AreScalars name.now) }
 {
     let name = tidy_name(alloc, name)?;
@@ -277,7 +286,7 @@ fn push_tidy_section(
     all: &[Section],
     section: &Section,
 ) -> Result<(), AllocError>
-    ensures ok { OnOk result (Puts (string_bytes out.old) (tidy_section_blocks all.now section.now) (string_bytes out.new)) }
+    ensures ok { OnOk result (PutsIn (tidy_section_blocks all.now section.now) out.old out.new) }
     ensures characters { OnOk result (AreSectionTexts (told_section section.now)) }
 {
     push_tidy_kept(alloc, out, section.before.as_slice())?;
@@ -289,7 +298,8 @@ fn push_tidy_section(
 
 /// Puts the tidy form of all sections.
 fn push_tidy_sections(alloc: Global, out: &mut String, all: &[Section]) -> Result<(), AllocError>
-    ensures ok { OnOk result (Puts (string_bytes out.old) (flat_map (tidy_section_blocks all.now) all.now) (string_bytes out.new)) }
+    ensures ok { OnOk result
+        (PutsIn (flat_map (tidy_section_blocks all.now) all.now) out.old out.new) }
     ensures characters { OnOk result (AllByRecursion AreSectionTexts (map told_section all.now)) }
 {
     for section in all {
@@ -300,7 +310,7 @@ fn push_tidy_sections(alloc: Global, out: &mut String, all: &[Section]) -> Resul
 
 /// Puts the tidy form of the setup cell.
 fn push_tidy_setup(alloc: Global, out: &mut String, cell: &Cell) -> Result<(), AllocError>
-    ensures ok { OnOk result (Puts (string_bytes out.old) (setup_blocks (tidy_cell cell.now)) (string_bytes out.new)) }
+    ensures ok { OnOk result (PutsIn (setup_blocks (tidy_cell cell.now)) out.old out.new) }
     ensures characters { OnOk result (AreCellTexts (told_cell cell.now)) }
 {
     let tidy = tidy_cell(alloc, cell.id, cell)?;
@@ -310,7 +320,7 @@ fn push_tidy_setup(alloc: Global, out: &mut String, cell: &Cell) -> Result<(), A
 
 /// Puts the blocks of a notebook's tidy form. That form is made cell by cell, and never held whole.
 pub(crate) fn push_tidied(alloc: Global, out: &mut String, book: &Parts) -> Result<(), AllocError>
-    ensures ok { OnOk result (Puts (string_bytes out.old) (blocks (tidied book.now)) (string_bytes out.new)) }
+    ensures ok { OnOk result (PutsIn (blocks (tidied book.now)) out.old out.new) }
     ensures characters { OnOk result (AreTexts (told book.now)) }
 {
     push_tidy_kept(alloc, out, book.before.as_slice())?;

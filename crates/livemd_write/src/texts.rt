@@ -1,12 +1,13 @@
 //! The tidy form of texts.
-ghost use Rattle.std.specs.Prelude.{◌≡◌, ◌++◌, ◌∷◌, [], ◌<◌, map, replicate, IfOk, OnOk};
+ghost use Rattle.std.specs.Prelude.{◌≡◌, ◌∷◌, [], ◌<◌, map, replicate, IfOk, OnOk};
 ghost use Rattle.std.specs.List.{list_any};
 ghost use Rattle.std.specs.String.{string_bytes};
 ghost use Rattle.utf16_text.specs.Units.{AreScalars};
-ghost use Rattle.blanks.specs.Blanks.{drop_end, drop_front, is_cr, is_space};
+ghost use Rattle.blanks.specs.Blanks.{is_cr};
 ghost use Rattle.livemd_lines.specs.Kinds.{byte_of};
 ghost use Rattle.livemd_format.specs.Tidy.{changed, clean, tidy_name};
 ghost use Rattle.livemd_write.specs.Texts.{space_for};
+ghost use Rattle.utf16_text.specs.Appended.{Appends};
 
 use blanks::{trim_spaces, without_crs};
 use livemd_lines::Mark;
@@ -54,7 +55,7 @@ fn mark_text(mark: Mark) -> &'static str
 
 /// Puts a mark so many times at the end.
 pub(crate) fn push_marks(out: &mut String, mark: Mark, count: usize) -> Result<(), AllocError>
-    ensures ok { OnOk result (string_bytes out.new ≡ string_bytes out.old ++ replicate count (byte_of mark)) }
+    ensures ok { OnOk result (Appends (replicate count (byte_of mark)) out.old out.new) }
 {
     for _ in 0..count {
         out.push_str(mark_text(mark))?;

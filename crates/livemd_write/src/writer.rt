@@ -35,8 +35,10 @@ fn without_feed(mut text: String) -> String
 /// if that is too large, or for want of memory.
 pub fn text(alloc: Global, book: &Notebook) -> Result<String, AllocError>
     ensures text { IfOk result (λ t. string_bytes t ≡ text_of (tidied book.now)) }
-    ensures reads_back { IfOk result (λ t. IsPlain book.now → Reads (string_bytes t) (tidied book.now) []) }
-    ensures accepted { IfOk result (λ t. IsPlain book.now → IsSmall (string_bytes t) → IsAccepted (string_bytes t)) }
+    ensures reads_back { IfOk result
+        (λ t. IsPlain book.now → Reads (string_bytes t) (tidied book.now) []) }
+    ensures accepted { IfOk result
+        (λ t. IsPlain book.now → IsSmall (string_bytes t) → IsAccepted (string_bytes t)) }
 {
     let mut out = String::new(alloc);
     push_tidied(alloc, &mut out, book.parts())?;

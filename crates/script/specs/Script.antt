@@ -1,4 +1,5 @@
 -- What bytes stand for as a script, and why they stand for none.
+use Rattle.limits.specs.Limits.{most_file_bytes}
 use Rattle.std.specs.Prelude.{◌≡◌, ℕ, ◌+◌, ◌<◌, ◌≤◌, List, [], ◌∷◌, ◌++◌, length}
 use Rattle.std.specs.List.{AllByRecursion}
 use Rattle.std.specs.Str.{IsUtf8}
@@ -27,7 +28,7 @@ pub record IsScript (ls : List (List ℕ)) (content : Content) : Type 0 where
 
 -- the bytes are few enough, and their lines stand for the script
 pub record IsScriptOf (bytes : List ℕ) (content : Content) : Type 0 where
-  pub small : length bytes ≤ 8_388_608
+  pub small : length bytes ≤ most_file_bytes
   pub script : IsScript (lines bytes) content
 
 -- what is wrong with a line that can't stand where it does
@@ -48,6 +49,6 @@ pub record IsFirstBad (ls : List (List ℕ)) (number : ℕ) (kind : LineFault) :
 
 -- why the bytes stand for no script
 abbrev pub IsScriptCause : List ℕ → ScriptError → Type 0
-IsScriptCause bytes TooLarge = 8_388_608 < length bytes
-IsScriptCause bytes (At line kind) = (length bytes ≤ 8_388_608) × IsFirstBad (lines bytes) line kind
+IsScriptCause bytes TooLarge = most_file_bytes < length bytes
+IsScriptCause bytes (At line kind) = (length bytes ≤ most_file_bytes) × IsFirstBad (lines bytes) line kind
 IsScriptCause bytes OutOfMemory = Unit {0}

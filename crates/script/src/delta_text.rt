@@ -11,7 +11,8 @@ use utf16_text::Text;
 
 /// The delta that a text writes as a JSON array of texts and whole numbers, or none.
 pub(crate) fn delta_of(alloc: Global, text: &str) -> Result<Option<Delta>, AllocError>
-    ensures { IfOk result (λ o. MatchOption o ((delta : List Step) → ¬ (IsDelta text.now delta)) (IsDelta text.now)) }
+    ensures { IfOk result
+        (λ o. MatchOption o ((delta : List Step) → ¬ (IsDelta text.now delta)) (IsDelta text.now)) }
 {
     let value = match Value::from_str(alloc, text) {
         Ok(value) => value,
@@ -29,7 +30,8 @@ pub(crate) fn delta_of(alloc: Global, text: &str) -> Result<Option<Delta>, Alloc
 
 /// The steps that the items are, where each is one.
 fn steps_of(alloc: Global, items: &[Value]) -> Result<Option<Vec<Step>>, AllocError>
-    ensures { IfOk result (λ o. option_map (λ steps. steps.items) o ≡ steps_of (items_view items.now)) }
+    ensures { IfOk result
+        (λ o. option_map (λ steps. steps.items) o ≡ steps_of (items_view items.now)) }
 {
     let mut steps = Vec::new(alloc);
     for item in items {

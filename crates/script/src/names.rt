@@ -16,7 +16,8 @@ const MAX_NAMES: usize = 64;
 pub(crate) fn number_in(names: &[Text], name: &str) -> Option<u32>
     requires forms { AreNames names.now }
     requires few { length names.now ≤ 64 }
-    ensures { MatchOption result ((client : ℕ) → ¬ (HasNumber names.now name.now client)) (HasNumber names.now name.now) }
+    ensures { MatchOption result ((client : ℕ) → ¬ (HasNumber names.now name.now client))
+        (HasNumber names.now name.now) }
 {
     match place_in(names, name) {
         Some(place) => Some(place as u32),
@@ -28,7 +29,8 @@ pub(crate) fn number_in(names: &[Text], name: &str) -> Option<u32>
 fn next_number(names: &[Text], name: &str) -> Option<u32>
     requires few { length names.now ≤ 64 }
     requires new { (place : ℕ) → slice_get names.now place ≢ Some name.now }
-    ensures { MatchOption result ((client : ℕ) → ¬ (HasNumber names.now name.now client)) (HasNumber names.now name.now) }
+    ensures { MatchOption result ((client : ℕ) → ¬ (HasNumber names.now name.now client))
+        (HasNumber names.now name.now) }
 {
     if names.len() < MAX_NAMES && is_name(name) {
         Some(names.len() as u32)
@@ -40,7 +42,8 @@ fn next_number(names: &[Text], name: &str) -> Option<u32>
 /// The place of a name among names in their form.
 fn place_in(names: &[Text], name: &str) -> Option<usize>
     requires { AreNames names.now }
-    ensures { MatchOption result ((place : ℕ) → slice_get names.now place ≢ Some name.now) (λ place. slice_get names.now place ≡ Some name.now) }
+    ensures { MatchOption result ((place : ℕ) → slice_get names.now place ≢ Some name.now)
+        (λ place. slice_get names.now place ≡ Some name.now) }
 {
     first_place(names, name)
 }

@@ -200,7 +200,8 @@ fn kind_of(word: &str) -> Option<CellKind>
 
 /// The number with which a text begins, and what follows it.
 fn number_and_rest(text: &str) -> Option<(u64, &str)>
-    ensures { MatchOption result ((number : ℕ) → ¬ (IsNumber (first_word text.now) number)) (λ found. IsNumber (first_word text.now) found.0 × (found.1.now ≡ after_word text.now)) }
+    ensures { MatchOption result ((number : ℕ) → ¬ (IsNumber (first_word text.now) number))
+        (λ found. IsNumber (first_word text.now) found.0 × (found.1.now ≡ after_word text.now)) }
 {
     let (word, rest) = split_word(text);
     let number = number_of(word)?;
@@ -218,7 +219,9 @@ fn two_numbers(text: &str) -> Option<(u64, u64)>
 
 /// The three numbers of which a text consists.
 fn three_numbers(text: &str) -> Option<(u64, u64, u64)>
-    ensures { Tells (λ found. IsNumberAnd text.now found.0 (λ rest. IsNumberAnd rest found.1 (λ rest. IsNumber rest found.2))) result }
+    ensures { Tells
+        (λ found. IsNumberAnd text.now found.0
+        (λ rest. IsNumberAnd rest found.1 (λ rest. IsNumber rest found.2))) result }
 {
     let (first, rest) = number_and_rest(text)?;
     let (second, third) = two_numbers(rest)?;
@@ -227,7 +230,8 @@ fn three_numbers(text: &str) -> Option<(u64, u64, u64)>
 
 /// The number and the text of which a text consists.
 fn number_and_text(alloc: Global, text: &str) -> Result<Option<(u64, Text)>, AllocError>
-    ensures { IfOk result (Tells (λ found. IsNumberAnd text.now found.0 (λ rest. IsText rest found.1))) }
+    ensures { IfOk result
+        (Tells (λ found. IsNumberAnd text.now found.0 (λ rest. IsText rest found.1))) }
 {
     let Some((number, rest)) = number_and_rest(text) else {
         return Ok(None);

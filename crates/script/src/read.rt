@@ -24,8 +24,10 @@ use std::str;
 /// joined is not looked at.
 pub fn read_script(alloc: Global, bytes: &[u8]) -> Result<Script, ScriptError>
     ensures script { MatchResult result (IsScriptOf bytes.now) (IsScriptCause bytes.now) }
-    ensures single { IfOk result (λ script. (other : Content) → IsScriptOf bytes.now other → other ≡ script) }
-    ensures none { IfErr result (λ error. error ≢ ScriptMemory → (other : Content) → ¬ (IsScriptOf bytes.now other)) }
+    ensures single { IfOk result
+        (λ script. (other : Content) → IsScriptOf bytes.now other → other ≡ script) }
+    ensures none { IfErr result
+        (λ error. error ≢ ScriptMemory → (other : Content) → ¬ (IsScriptOf bytes.now other)) }
 {
     if bytes.len() > MOST_FILE_BYTES {
         return Err(ScriptError::TooLarge);

@@ -58,7 +58,8 @@ impl Script {
 
     /// The script with the line of a text at its end.
     pub(crate) fn with(self, alloc: Global, text: &str) -> Result<Script, LineError>
-        ensures { MatchResult result (IsNext self (first_word text.now) (after_word text.now)) (IsUnfit self (first_word text.now) (after_word text.now)) }
+        ensures { MatchResult result (IsNext self (first_word text.now) (after_word text.now))
+            (IsUnfit self (first_word text.now) (after_word text.now)) }
     {
         let Script { content } = self;
         let content = content_with(alloc, content, text)?;
@@ -69,7 +70,8 @@ impl Script {
 /// The content with the line of a text at its end.
 fn content_with(alloc: Global, content: Content, text: &str) -> Result<Content, LineError>
     requires { IsNumbered content }
-    ensures { MatchResult result (IsNext content (first_word text.now) (after_word text.now)) (IsUnfit content (first_word text.now) (after_word text.now)) }
+    ensures { MatchResult result (IsNext content (first_word text.now) (after_word text.now))
+        (IsUnfit content (first_word text.now) (after_word text.now)) }
 {
     let (word, rest) = split_word(text);
     let Some(line) = next_line(alloc, content.names.as_slice(), word, rest)? else {

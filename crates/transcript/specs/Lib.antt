@@ -1,4 +1,5 @@
 pub mod Deltas
 pub mod Left
-pub mod Texts
+pub mod Printed
 pub mod States
+pub mod Texts

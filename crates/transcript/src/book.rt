@@ -6,6 +6,7 @@ ghost use Rattle.notebook.specs.Book.{cells_of};
 ghost use Rattle.notebook.specs.Rules.{cell_number, AreDistinct};
 ghost use Rattle.transcript.specs.Left.{LeavesOthers};
 ghost use Rattle.transcript.specs.Texts.{rev_in as rev_among, kind_text, from_text, cell_line, cell_lines, section_line, section_lines, setup_lines, book_lines, ended_line, as_text};
+ghost use Rattle.transcript.specs.Printed.{Appends, AppendsLines};
 
 use crate::words::{push_named, push_plain, push_text};
 use notebook::{Cell, CellId, Kind, Notebook, Section, SectionId};
@@ -28,7 +29,8 @@ pub fn rev_in(revs: &[(CellId, u64)], cell: CellId) -> u64
 /// cell's, so that a list in the order of the cells is gone through once.
 fn take_rev(revs: &[(CellId, u64)], cell: CellId) -> (u64, &[(CellId, u64)])
     ensures rev { result.0 ≡ rev_among revs.now cell }
-    ensures left { (other : ℕ) → other ≢ cell → rev_among result.1.now other ≡ rev_among revs.now other }
+    ensures left { (other : ℕ) → other ≢ cell
+        → rev_among result.1.now other ≡ rev_among revs.now other }
 {
     match revs.split_first() {
         Some((first, left)) if first.0 == cell => (first.1, left),
@@ -49,7 +51,7 @@ fn kind_word(kind: Kind) -> &'static str
 
 /// Puts a cell's line after a text.
 fn push_cell(out: &mut String, cell: &Cell, rev: u64) -> Result<(), AllocError>
-    ensures { OnOk result (string_bytes out.new ≡ string_bytes out.old ++ ended_line (cell_line (λ _. rev) cell.now)) }
+    ensures { OnOk result (Appends (ended_line (cell_line (λ _. rev) cell.now)) out.old out.new) }
 {
     push_named(out, "cell ", cell.id)?;
     push_plain(out, " ")?;
@@ -62,7 +64,7 @@ fn push_cell(out: &mut String, cell: &Cell, rev: u64) -> Result<(), AllocError>
 
 /// Puts the setup cell's line after a text, and nothing where its source is empty.
 fn push_setup(out: &mut String, setup: &Cell, rev: u64) -> Result<(), AllocError>
-    ensures { OnOk result (string_bytes out.new ≡ string_bytes out.old ++ as_text (setup_lines (λ _. rev) setup.now)) }
+    ensures { OnOk result (AppendsLines (setup_lines (λ _. rev) setup.now) out.old out.new) }
 {
     if setup.source.is_empty() {
         return Ok(());
@@ -77,7 +79,8 @@ fn push_cells<'a>(
     revs: &'a [(CellId, u64)],
 ) -> Result<&'a [(CellId, u64)], AllocError>
     requires { AreDistinct (map cell_number cells.now) }
-    ensures text { OnOk result (string_bytes out.new ≡ string_bytes out.old ++ as_text (cell_lines (rev_among revs.now) cells.now)) }
+    ensures text { OnOk result
+        (AppendsLines (cell_lines (rev_among revs.now) cells.now) out.old out.new) }
     ensures left { IfOk result (λ left. LeavesOthers cells.now revs.now left.now) }
 {
     let mut left = revs;
@@ -91,7 +94,7 @@ fn push_cells<'a>(
 
 /// Puts the words for a section's parent after a text.
 fn push_parent(out: &mut String, parent: Option<SectionId>) -> Result<(), AllocError>
-    ensures { OnOk result (string_bytes out.new ≡ string_bytes out.old ++ from_text parent) }
+    ensures { OnOk result (Appends (from_text parent) out.old out.new) }
 {
     match parent {
         Some(id) => push_named(out, " from ", id),
@@ -101,7 +104,7 @@ fn push_parent(out: &mut String, parent: Option<SectionId>) -> Result<(), AllocE
 
 /// Puts a section's own line after a text.
 fn push_heading(out: &mut String, section: &Section) -> Result<(), AllocError>
-    ensures { OnOk result (string_bytes out.new ≡ string_bytes out.old ++ ended_line (section_line section.now)) }
+    ensures { OnOk result (Appends (ended_line (section_line section.now)) out.old out.new) }
 {
     push_named(out, "section ", section.id)?;
     push_plain(out, " ")?;
@@ -117,7 +120,8 @@ fn push_sections(
     revs: &[(CellId, u64)],
 ) -> Result<(), AllocError>
     requires { AreDistinct (map cell_number (flat_map cells_of sections.now)) }
-    ensures { OnOk result (string_bytes out.new ≡ string_bytes out.old ++ as_text (section_lines (rev_among revs.now) sections.now)) }
+    ensures { OnOk result
+        (AppendsLines (section_lines (rev_among revs.now) sections.now) out.old out.new) }
 {
     let mut left = revs;
     for section in sections {
@@ -129,7 +133,8 @@ fn push_sections(
 
 /// Puts the line with a notebook's name after a text.
 fn push_title(out: &mut String, name: &str) -> Result<(), AllocError>
-    ensures { OnOk result (string_bytes out.new ≡ string_bytes out.old ++ ended_line (codes "notebook " ++ quoted name.now)) }
+    ensures { OnOk result
+        (Appends (ended_line (codes "notebook " ++ quoted name.now)) out.old out.new) }
 {
     push_plain(out, "notebook ")?;
     push_text(out, name)?;
@@ -145,7 +150,8 @@ pub fn push_book(
     book: &Notebook,
     revs: &[(CellId, u64)],
 ) -> Result<(), AllocError>
-    ensures { OnOk result (string_bytes out.new ≡ string_bytes out.old ++ as_text (book_lines (rev_among revs.now) book.now)) }
+    ensures { OnOk result
+        (AppendsLines (book_lines (rev_among revs.now) book.now) out.old out.new) }
 {
     let parts = book.parts();
     push_title(out, parts.name.as_str())?;
@@ -160,7 +166,8 @@ pub fn book_text(
     book: &Notebook,
     revs: &[(CellId, u64)],
 ) -> Result<String, AllocError>
-    ensures { IfOk result (λ s. string_bytes s ≡ as_text (book_lines (rev_among revs.now) book.now)) }
+    ensures { IfOk result
+        (λ s. string_bytes s ≡ as_text (book_lines (rev_among revs.now) book.now)) }
 {
     let mut out = String::new(alloc);
     push_book(&mut out, book, revs)?;

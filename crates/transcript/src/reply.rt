@@ -1,7 +1,8 @@
 //! The printed text of replies.
-ghost use Rattle.std.specs.Prelude.{◌≡◌, ◌++◌, OnOk, IfOk, string_bytes};
+ghost use Rattle.std.specs.Prelude.{◌≡◌, OnOk, IfOk, string_bytes};
 ghost use Rattle.session_ops.specs.declared.entry.Reply.TheVariants.{Started};
 ghost use Rattle.transcript.specs.Texts.{refusal_text, reply_text as text_of_reply};
+ghost use Rattle.transcript.specs.Printed.{Appends};
 
 use crate::words::{push_named, push_plain};
 use session_ops::{Refusal, Reply};
@@ -9,7 +10,7 @@ use std::alloc::{AllocError, Global};
 
 /// Puts a refusal's name after a text, with its number where it has one: `TooNew 3`.
 pub fn push_refusal(out: &mut String, refusal: &Refusal) -> Result<(), AllocError>
-    ensures { OnOk result (string_bytes out.new ≡ string_bytes out.old ++ refusal_text refusal.now) }
+    ensures { OnOk result (Appends (refusal_text refusal.now) out.old out.new) }
 {
     match *refusal {
         Refusal::NotJoined => push_plain(out, "NotJoined"),
@@ -33,7 +34,7 @@ pub fn push_refusal(out: &mut String, refusal: &Refusal) -> Result<(), AllocErro
 
 /// Puts a reply after a text: `ok`, `accepted rev 2` or `refused NoCell`.
 pub fn push_reply(out: &mut String, reply: &Reply) -> Result<(), AllocError>
-    ensures { OnOk result (string_bytes out.new ≡ string_bytes out.old ++ text_of_reply reply.now) }
+    ensures { OnOk result (Appends (text_of_reply reply.now) out.old out.new) }
 {
     match reply {
         Reply::Accepted => push_plain(out, "ok"),
@@ -52,7 +53,7 @@ pub fn push_reply(out: &mut String, reply: &Reply) -> Result<(), AllocError>
 
 /// Puts the reply to a start after a text: `eval 3 cell 2`.
 fn push_started(out: &mut String, eval: u64, cell: u64) -> Result<(), AllocError>
-    ensures { OnOk result (string_bytes out.new ≡ string_bytes out.old ++ text_of_reply (Started eval cell)) }
+    ensures { OnOk result (Appends (text_of_reply (Started eval cell)) out.old out.new) }
 {
     push_named(out, "eval ", eval)?;
     push_named(out, " cell ", cell)

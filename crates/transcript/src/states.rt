@@ -1,8 +1,8 @@
 //! The printed text of a cell's state.
-ghost use Rattle.std.specs.Prelude.{◌≡◌, ◌++◌, ◌∷◌, [], Option, option_map, OnOk, string_bytes};
-ghost use Rattle.ex_model.specs.declared.ran.Shown.{Shown as ShownValue};
+ghost use Rattle.std.specs.Prelude.{◌≡◌, ◌++◌, Option, option_map, OnOk};
 ghost use Rattle.transcript.specs.Texts.{ended_line};
 ghost use Rattle.transcript.specs.States.{lane_text, status_text, validity_text, printed_text, outcome_text, shown_text, state_line};
+ghost use Rattle.transcript.specs.Printed.{Appends};
 
 use crate::words::{push_named, push_plain, push_text};
 use ex_model::{Outcome, Shown, fault_text};
@@ -32,7 +32,7 @@ fn validity_word(validity: Validity) -> &'static str
 
 /// Puts a lane after a text: `main` or `branch 2`.
 fn push_lane(out: &mut String, lane: Lane) -> Result<(), AllocError>
-    ensures { OnOk result (string_bytes out.new ≡ string_bytes out.old ++ lane_text lane) }
+    ensures { OnOk result (Appends (lane_text lane) out.old out.new) }
 {
     match lane {
         Lane::Main => push_plain(out, "main"),
@@ -42,7 +42,7 @@ fn push_lane(out: &mut String, lane: Lane) -> Result<(), AllocError>
 
 /// Puts the printed text of an evaluation after a text, unless it is empty.
 fn push_printed(out: &mut String, printed: &str) -> Result<(), AllocError>
-    ensures { OnOk result (string_bytes out.new ≡ string_bytes out.old ++ printed_text printed.now) }
+    ensures { OnOk result (Appends (printed_text printed.now) out.old out.new) }
 {
     if printed.is_empty() {
         return Ok(());
@@ -53,7 +53,7 @@ fn push_printed(out: &mut String, printed: &str) -> Result<(), AllocError>
 
 /// Puts a value or a fault after a text.
 fn push_outcome(out: &mut String, alloc: Global, outcome: &Outcome) -> Result<(), AllocError>
-    ensures { OnOk result (string_bytes out.new ≡ string_bytes out.old ++ outcome_text outcome.now) }
+    ensures { OnOk result (Appends (outcome_text outcome.now) out.old out.new) }
 {
     match outcome {
         Outcome::Value(value) => {
@@ -69,7 +69,9 @@ fn push_outcome(out: &mut String, alloc: Global, outcome: &Outcome) -> Result<()
 
 /// Puts what an evaluation showed after a text.
 fn push_shown(out: &mut String, alloc: Global, shown: &Shown) -> Result<(), AllocError>
-    ensures { OnOk result (string_bytes out.new ≡ string_bytes out.old ++ (printed_text shown.now.printed ++ outcome_text shown.now.outcome)) }
+    ensures { OnOk result
+        (Appends (printed_text shown.now.printed ++ outcome_text shown.now.outcome) out.old
+        out.new) }
 {
     push_printed(out, shown.printed.as_str())?;
     push_outcome(out, alloc, &shown.outcome)
@@ -77,7 +79,8 @@ fn push_shown(out: &mut String, alloc: Global, shown: &Shown) -> Result<(), Allo
 
 /// Puts what an evaluation showed after a text, where there is one.
 fn push_shown_if(out: &mut String, alloc: Global, shown: Option<&Shown>) -> Result<(), AllocError>
-    ensures { OnOk result (string_bytes out.new ≡ string_bytes out.old ++ shown_text (option_map (λ s. s.now) shown.entry)) }
+    ensures { OnOk result
+        (Appends (shown_text (option_map (λ s. s.now) shown.entry)) out.old out.new) }
 {
     match shown {
         None => Ok(()),
@@ -93,7 +96,8 @@ fn push_state_head(
     status: Status,
     validity: Validity,
 ) -> Result<(), AllocError>
-    ensures { OnOk result (string_bytes out.new ≡ string_bytes out.old ++ state_line cell lane status validity Option.None) }
+    ensures { OnOk result
+        (Appends (state_line cell lane status validity Option.None) out.old out.new) }
 {
     push_named(out, "code ", cell)?;
     push_plain(out, " ")?;
@@ -115,7 +119,9 @@ pub fn push_state(
     validity: Validity,
     shown: Option<&Shown>,
 ) -> Result<(), AllocError>
-    ensures { OnOk result (string_bytes out.new ≡ string_bytes out.old ++ ended_line (state_line cell lane status validity (option_map (λ s. s.now) shown.entry))) }
+    ensures { OnOk result
+        (Appends (ended_line (state_line cell lane status validity (option_map (λ s. s.now)
+        shown.entry))) out.old out.new) }
 {
     push_state_head(out, cell, lane, status, validity)?;
     push_shown_if(out, alloc, shown)?;
