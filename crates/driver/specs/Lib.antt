@@ -7,7 +7,6 @@ pub mod Lines
 pub mod Player
 pub mod Playing
 pub mod Plays
-pub mod Printed
 pub mod Program
 pub mod Settling
 pub mod Standing

@@ -1,5 +1,6 @@
 -- What the program answers.
-use Rattle.std.specs.Prelude.{◌≡◌, ◌≢◌, ℕ, ◌⊎◌, Bool, true, false, List, [], ◌∷◌, map, Option, Some, None, codes}
+use Rattle.limits.specs.Limits.{most_file_bytes}
+use Rattle.std.specs.Prelude.{◌+◌, ◌≡◌, ◌≢◌, ℕ, ◌⊎◌, Bool, true, false, List, [], ◌∷◌, map, Option, Some, None, codes}
 use Rattle.book_outside.specs.Outside.{Rose, GivesFront, with_reading}
 use Rattle.notebook.specs.declared.parts.Parts.{Parts}
 use Rattle.livemd_format.specs.declared.notices.Notice.{Notice}
@@ -52,7 +53,7 @@ status_of (Some OutOfMemory) = 7
 
 -- at most this many bytes of a file are read, which is one more than a book or a script may have
 abbrev pub most_bytes : ℕ
-most_bytes = 8388609
+most_bytes = most_file_bytes + 1
 
 -- the words name a book, and its bytes were read
 pub record BookIsRead (words : List (List ℕ)) (held : Option (List (List ℕ × List ℕ))) : Type 0 where

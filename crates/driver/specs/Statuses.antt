@@ -15,7 +15,7 @@ use Rattle.lanes.specs.declared.work.Work.{Work}
 use Rattle.lanes.specs.Work.{is_queued, is_aborted, is_running, last_finished, path_read, shown_in}
 use Rattle.transcript.specs.States.{state_line}
 use Rattle.session_core.specs.Session.{Session, IsSession, state_of}
-use Rattle.driver.specs.Printed.{AppendsLines}
+use Rattle.transcript.specs.Printed.{AppendsLines}
 
 -- what a cell's last evaluation is worth now
 abbrev pub validity_now : Parts → Work → ℕ → Validity

@@ -5,7 +5,7 @@ ghost use Rattle.client_sync.specs.Client.{Pending};
 ghost use Rattle.client_sync.specs.Stands.{IsPendingOf, IsViewOf};
 ghost use Rattle.std.specs.Option.{option_copied};
 ghost use Rattle.driver.specs.Lines.{notice_line, joined_words, not_joined_words, left_words, raw_joined_words, raw_not_joined_words, raw_words, raw_refused_words, no_client_words, edit_words, posted_words, not_posted_words, sent_words, nothing_words, received_words, sync_words, flight_words, pending_answer, pending_words, error_words};
-ghost use Rattle.driver.specs.Printed.{Appends, AppendsLine};
+ghost use Rattle.transcript.specs.Printed.{Appends, AppendsLine};
 
 use client_sync::{EditError, PendingEdits};
 use delta::Delta;

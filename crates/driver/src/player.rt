@@ -10,7 +10,7 @@ ghost use Rattle.driver.specs.Lines.{posted_words};
 ghost use Rattle.driver.specs.Player.{Stage, or_no_name, how_many, send_next, send_many, send_all, send_each, send_or_nothing};
 ghost use Rattle.driver.specs.Standing.{Stands, HasCalled, HasAdmitted};
 ghost use Rattle.driver.specs.Ends.{IsFresh};
-ghost use Rattle.driver.specs.Printed.{AppendsLine};
+ghost use Rattle.transcript.specs.Printed.{AppendsLine};
 ghost use Rattle.driver.specs.Plays.{game, Plays, PlaysFor, DoesFor, PlaysIn, DoesIn, PrintsIn, AsksFor, EditsOwn, PostsOwn, ReportsOwn, ReceivesOwn, RoundsIn, HasLooked, Posts};
 
 use crate::clients::{all_sent, deliver, deliver_all, remove};

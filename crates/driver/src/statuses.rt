@@ -5,7 +5,7 @@ ghost use Rattle.notebook.specs.Flow.{section_lane};
 ghost use Rattle.lanes.specs.declared.work.Work.{Work};
 ghost use Rattle.transcript.specs.Texts.{ended_line};
 ghost use Rattle.driver.specs.Statuses.{Tells, HasPath, HasPathIfCode, AllHavePaths, AllSectionsHavePaths, cell_line, line_of_kind, code_lines, section_code_lines, setup_line, status_lines, Lists};
-ghost use Rattle.driver.specs.Printed.{Appends, AppendsLines};
+ghost use Rattle.transcript.specs.Printed.{Appends, AppendsLines};
 
 use notebook::{Cell, CellId, Kind, Lane, Parts, Section};
 use session_core::{Row, Session};

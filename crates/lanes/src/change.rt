@@ -16,7 +16,8 @@ use std::alloc::{AllocError, Global};
 
 /// The place of a cell's mark.
 fn place_of(marks: &[Mark], cell: CellId) -> Option<usize>
-    ensures { MatchOption result (find (is_mark_of cell) marks.now ≡ None) (IsFirst (is_mark_of cell) marks.now) }
+    ensures { MatchOption result (find (is_mark_of cell) marks.now ≡ None)
+        (IsFirst (is_mark_of cell) marks.now) }
 {
     for (at, mark) in marks.iter().enumerate() {
         if mark.cell == cell {
@@ -28,7 +29,8 @@ fn place_of(marks: &[Mark], cell: CellId) -> Option<usize>
 
 /// The place of the running evaluation of the number.
 fn place_of_eval(running: &[Running], eval: u64) -> Option<usize>
-    ensures { MatchOption result (find (is_eval eval) running.now ≡ None) (IsFirst (is_eval eval) running.now) }
+    ensures { MatchOption result (find (is_eval eval) running.now ≡ None)
+        (IsFirst (is_eval eval) running.now) }
 {
     for (at, it) in running.iter().enumerate() {
         if it.eval == eval {
@@ -149,7 +151,9 @@ impl Work {
         lane: Lane,
         cell: CellId,
     ) -> Result<u64, AllocError>
-        ensures { MatchResult result (λ eval. (eval ≡ self.old.started + 1) × (self.new ≡ begun book.now lane eval cell self.old)) (λ e. self.new ≡ self.old) }
+        ensures { MatchResult result
+            (λ eval. (eval ≡ self.old.started + 1) ×
+            (self.new ≡ begun book.now lane eval cell self.old)) (λ e. self.new ≡ self.old) }
     {
         let Some(eval) = self.started.checked_add(1) else {
             return Err(AllocError);
@@ -238,7 +242,8 @@ impl Work {
         requires { at < length self.old.marks }
         ensures running { self.new.running ≡ self.old.running }
         ensures started { self.new.started ≡ self.old.started }
-        ensures mark { (m : Mark) → slice_get self.old.marks at ≡ Some m → self.new.marks ≡ slice_set self.old.marks at (swept_mark book.now self.old m) }
+        ensures mark { (m : Mark) → slice_get self.old.marks at ≡ Some m
+            → self.new.marks ≡ slice_set self.old.marks at (swept_mark book.now self.old m) }
     {
         if self.is_lost(book, &self.marks.as_slice()[at]) {
             let mark = self.marks.item_mut(at);

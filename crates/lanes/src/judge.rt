@@ -48,7 +48,8 @@ fn status_by(runs: bool, queued: bool) -> Status
 
 /// What the last finished evaluation is worth where the cell's flow is this one.
 fn validity_by(aborted: bool, last: Option<&Finished>, flow: FlowCells<'_>) -> Validity
-    ensures { result ≡ validity_by aborted (option_map path_read (option_copied last.entry)) (map passed (left flow.entry)) }
+    ensures { result ≡ validity_by aborted (option_map path_read (option_copied last.entry))
+        (map passed (left flow.entry)) }
 {
     if aborted {
         return Validity::Aborted;
@@ -105,7 +106,8 @@ impl Work {
 
     /// What the cell's last finished evaluation is worth where its flow is this one.
     fn validity(&self, cell: CellId, flow: FlowCells<'_>) -> Validity
-        ensures { result ≡ validity_by (is_aborted self.now cell) (option_map path_read (last_finished self.now cell)) (map passed (left flow.entry)) }
+        ensures { result ≡ validity_by (is_aborted self.now cell)
+            (option_map path_read (last_finished self.now cell)) (map passed (left flow.entry)) }
     {
         validity_by(self.is_aborted(cell), self.last(cell), flow)
     }
@@ -141,7 +143,8 @@ impl Work {
 
     /// The first of these cells that is evaluated and shows a fault.
     fn first_failed(&self, book: &Notebook, cells: FlowCells<'_>) -> Option<CellId>
-        ensures { result ≡ find (has_failed book.now self.now) (map cell_number (left cells.entry)) }
+        ensures { result ≡ find (has_failed book.now self.now)
+            (map cell_number (left cells.entry)) }
     {
         let mut rest = cells;
         while let Some((cell, after)) = rest.next() {
@@ -207,7 +210,8 @@ impl Work {
 
     /// Whether all of these cells are settled.
     fn are_settled(&self, book: &Notebook, cells: FlowCells<'_>) -> bool
-        ensures { result ≡ list_all (is_settled book.now self.now) (map cell_number (left cells.entry)) }
+        ensures { result ≡ list_all (is_settled book.now self.now)
+            (map cell_number (left cells.entry)) }
     {
         let mut rest = cells;
         while let Some((cell, after)) = rest.next() {

@@ -114,7 +114,8 @@ fn edited(
     cell: CellId,
     delta: &Delta,
 ) -> Result<Option<Text>, AllocError>
-    ensures { (own : Cell) → found cell (cells book.now) ≡ Some own → FitsText delta.now own.source →
+    ensures { (own : Cell) → found cell (cells book.now) ≡ Some own → FitsText delta.now own.source
+        →
         IfOk result (λ text. text ≡ Some (text_after delta.now own.source)) }
 {
     let Some(own) = book.find(cell) else {
