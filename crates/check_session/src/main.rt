@@ -9,6 +9,7 @@ mod answer;
 mod books;
 mod calls;
 mod events;
+mod stories;
 mod worlds;
 
 use answer::{Answer, first_wrong};
