@@ -11,5 +11,7 @@ returns c = λ n0 is.
     let s = c.args.player.now.session in
     end-printed n0 c.args.player.now c.in_ok-snapshot.snapshot (string_bytes c.push_plain.new.out) (string_bytes c.push_book.new.out) (string_bytes c.push_statuses.new.out) (snapshot-over n0 s (length (history_of s)) c.in_ok-snapshot.snapshot is c.in_ok-snapshot.ensures)
     (c.in_ok-push_plain.ensures ∙ ap (λ x. x ++ codes "end\n") c.new-out.ensures.bytes)
-    (c.in_ok-push_book.ensures ∙ ap (λ rs. string_bytes c.push_plain.new.out ++ as_text (book_lines (rev_in rs) c.in_ok-snapshot.snapshot.book)) c.as_slice.ensures)
-    (states-printed n0 s c.parts.result.now _ _ is (c.parts.ensures.parts ∙ told-over (λ x. c.book.result.now ≡ x.book) n0 s is c.book.ensures) c.in_ok-push_statuses.ensures)
+    (c.in_ok-push_book.ensures
+    ∙ (ap (λ b. string_bytes c.push_plain.new.out ++ as_text (book_lines (rev_in c.revs.result.now) b)) c.book.ensures
+    ∙ ap (λ rs. string_bytes c.push_plain.new.out ++ as_text (book_lines (rev_in rs) c.in_ok-snapshot.snapshot.book)) c.revs.ensures.revs))
+    (states-printed n0 s c.parts.result.now _ _ is (c.parts.ensures.parts ∙ told-over (λ x. c.book-2.result.now ≡ x.book) n0 s is c.book-2.ensures) c.in_ok-push_statuses.ensures)
