@@ -3,7 +3,7 @@ use crate::written::{Written, values};
 use ex_faults::fault_text;
 use ex_prims::{CallError, call};
 use ex_terms::Value;
-use ex_value::Word;
+use ex_word::Word;
 use std::alloc::Global;
 
 /// A name with its arguments, and what the call shows: its value as it is written in a source, or its

@@ -3,7 +3,7 @@ use crate::rows::first_wrong;
 use crate::written::{Written, value, values};
 use ex_faults::{Fault, fault_text};
 use ex_terms::{Items, Value};
-use ex_value::Word;
+use ex_word::Word;
 use std::alloc::Global;
 
 /// Whether a fault is printed as this.

@@ -64,7 +64,7 @@ const TEXTS: &[(usize, u64)] = &[(0, 1), (15, 1), (16, 2), (17, 2), (31, 2), (32
 
 fn size_of_text(alloc: Global, bytes: usize) -> Option<u64> {
     let text = repeated(alloc, "a", bytes)?;
-    let word = ex_value::Word::of(alloc, text.as_str()).ok()?;
+    let word = ex_word::Word::of(alloc, text.as_str()).ok()?;
     Some(Value::Str(word).size())
 }
 

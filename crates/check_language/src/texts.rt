@@ -2,7 +2,7 @@
 use crate::terms::mixed;
 use crate::written::{Written, value};
 use ex_terms::{DisplayError, Value};
-use ex_value::Word;
+use ex_word::Word;
 use std::alloc::Global;
 
 /// Values, and how they stand in a source.

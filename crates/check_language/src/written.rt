@@ -1,6 +1,6 @@
 //! Whole values, as tables write them.
 use ex_terms::{Items, Value};
-use ex_value::Word;
+use ex_word::Word;
 use std::alloc::Global;
 
 /// A value: a number, an atom, a text, or a tuple or a list of numbers.

@@ -5,7 +5,7 @@ ghost use Rattle.ex_terms.specs.Seen.{term_of};
 ghost use Rattle.ex_faults.specs.Faults.{text_of};
 
 use ex_terms::Value;
-use ex_value::Word;
+use ex_word::Word;
 use itoa::Buffer;
 use std::alloc::{AllocError, Global};
 

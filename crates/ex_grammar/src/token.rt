@@ -1,5 +1,5 @@
 // Tokens, as lexer and parser keep them.
-use ex_value::Word;
+use ex_word::Word;
 
 /// A sign.
 #[derive(Clone, Copy, Debug, PartialEq, Eq)]

@@ -16,7 +16,7 @@ use crate::numbers::read_digits;
 use crate::signs::sign_at;
 use crate::texts::{Stop, begins_with, read_run};
 use ex_grammar::{LexErrorKind, TokenKind};
-use ex_value::Word;
+use ex_word::Word;
 use std::alloc::{AllocError, Global};
 
 /// What a source consists of, before its newlines are settled.

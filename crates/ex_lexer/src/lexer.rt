@@ -16,7 +16,7 @@ use crate::front::{Front, Part, read_front};
 use crate::settled::Settled;
 use crate::texts::{Stop, begins_with, read_run};
 use ex_grammar::{LexErrorKind, Sign, Token, TokenKind};
-use ex_value::Word;
+use ex_word::Word;
 use std::alloc::{AllocError, Global};
 
 /// A text that is open at a `#{`.

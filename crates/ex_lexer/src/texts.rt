@@ -6,7 +6,7 @@ ghost use Rattle.std.specs.Str.{IsUtf8};
 ghost use Rattle.ex_grammar.specs.Texts.{escape_in, escapes, is_plain, first_is, are_hexdigits, hex_value};
 ghost use Rattle.ex_lexer.specs.Runs.{run, GoesOn, escape_at, short_escape, coded_escape, plain_len};
 
-use ex_value::Word;
+use ex_word::Word;
 use std::alloc::{AllocError, Global};
 
 /// Where the characters of a text end.

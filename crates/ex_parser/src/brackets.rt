@@ -13,7 +13,7 @@ use crate::follow::{Bracket, Follow, Next, closed_at, key_at, same_bracket};
 use crate::parser::{Enclosure, Held, Items, Move, PRIMARY, Parser, Pending, tree_of};
 use crate::tree::Node;
 use ex_grammar::Token;
-use ex_value::Word;
+use ex_word::Word;
 use std::alloc::AllocError;
 
 impl Parser {

@@ -15,7 +15,7 @@ use crate::follow::{
 use crate::parser::{Enclosure, Held, Items, Move, PRIMARY, Parser, Pending, tree_of};
 use crate::tree::{Hole, Node};
 use ex_grammar::{Keyword, Sign, Token, TokenKind, WordValue};
-use ex_value::Word;
+use ex_word::Word;
 use std::alloc::AllocError;
 
 impl Parser {

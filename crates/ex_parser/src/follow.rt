@@ -8,7 +8,7 @@ ghost use Rattle.ex_parser.specs.Shown.{token_of, tokens_of, FollowShows, CallSh
 ghost use Rattle.ex_parser.specs.declared.follow.TextGoes.TheVariants.{Hole, Ends};
 
 use ex_grammar::{Infix, Keyword, Prefix, Sign, Token, TokenKind};
-use ex_value::Word;
+use ex_word::Word;
 use std::alloc::{AllocError, Global};
 
 /// A kind of bracket.

@@ -16,7 +16,7 @@ use crate::brackets::close_parens;
 use crate::follow::{after_separator, call_at, follow_at, infix_at, kind_at, prefix_of, token_at};
 use crate::tree::{Ast, Choice, Clause, Head, Hole, Node, Part};
 use ex_grammar::{Infix, Operator, Prefix, Token, TokenKind};
-use ex_value::Word;
+use ex_word::Word;
 use std::alloc::{AllocError, Global};
 
 /// The levels at which a match, a call with `|>`, a unary and a primary stand.

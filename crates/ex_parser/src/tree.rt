@@ -1,6 +1,6 @@
 // Trees, kept as nodes that name their parts by places.
 use ex_grammar::{Operator, Prefix, WordValue};
-use ex_value::Word;
+use ex_word::Word;
 
 /// What follows in a text: the place of an expression in `#{` and `}`, and what the text says after it.
 #[derive(Debug, Drop)]

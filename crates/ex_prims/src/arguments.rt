@@ -5,7 +5,7 @@ ghost use Rattle.ex_prims.specs.Answers.{boolean_of, is_falsy, nil, of_integer, 
 
 use crate::refused::Refused;
 use ex_terms::Value;
-use ex_value::Word;
+use ex_word::Word;
 use std::alloc::{AllocError, Global};
 
 /// The integer that an argument is. [`Refused::Wrong`] exactly where it is none.

@@ -12,7 +12,7 @@ use crate::refused::Refused;
 use crate::rows::{Given, one, two};
 use ex_faults::Fault;
 use ex_terms::{Value, size_together};
-use ex_value::Word;
+use ex_word::Word;
 use std::alloc::{AllocError, Global};
 
 /// What a call gives.

@@ -14,7 +14,7 @@ use crate::arguments::{integer, list, text};
 use crate::refused::Refused;
 use ex_faults::Fault;
 use ex_terms::Value;
-use ex_value::Word;
+use ex_word::Word;
 use itoa::Buffer;
 use std::alloc::{AllocError, Global};
 

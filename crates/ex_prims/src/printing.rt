@@ -12,7 +12,7 @@ use crate::rows::Given;
 use crate::texting::displayed;
 use ex_faults::Fault;
 use ex_terms::Value;
-use ex_value::Word;
+use ex_word::Word;
 use std::alloc::Global;
 
 /// `IO.puts(v)`: the text for readers and a line feed; the value is `:ok`.

@@ -11,7 +11,7 @@ use crate::printing::{puts, show};
 use crate::refused::Refused;
 use crate::{comparing, integers, listing, texting};
 use ex_terms::Value;
-use ex_value::Word;
+use ex_word::Word;
 use std::alloc::Global;
 
 /// What a row gives.

@@ -18,7 +18,7 @@ use crate::limits::Limits;
 use crate::refused::Refused;
 use ex_faults::Fault;
 use ex_terms::{DisplayError, Items, Value};
-use ex_value::Word;
+use ex_word::Word;
 use std::alloc::{AllocError, Global};
 
 /// The text of a value for readers, if it has one: a tuple or a list has none.

@@ -9,7 +9,7 @@ use crate::error::DisplayError;
 use crate::names::{is_alias, is_name};
 use crate::quoting::push_quoted;
 use crate::values::Value;
-use ex_value::Word;
+use ex_word::Word;
 use itoa::Buffer;
 use std::alloc::{AllocError, Global};
 

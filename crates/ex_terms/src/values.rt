@@ -1,5 +1,5 @@
 //! Values and the lists of values that stand in them.
-use ex_value::Word;
+use ex_word::Word;
 use std::alloc::Global;
 use std::marker::Model;
 use std::sync::Arc;
