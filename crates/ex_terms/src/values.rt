@@ -6,7 +6,7 @@ use std::sync::Arc;
 
 /// What an expression gives.
 #[cycle(values)]
-#[derive(Drop)]
+#[derive(Debug, Drop)]
 pub enum Value {
     /// An integer of 128 bits: `42`.
     Int(i128),
@@ -22,7 +22,7 @@ pub enum Value {
 
 /// The values of a tuple or a list, which don't change. A copy shares them.
 #[cycle(values)]
-#[derive(Drop)]
+#[derive(Debug, Drop)]
 pub struct Items {
     pub(crate) values: Arc<Vec<Value>, Global>,
     /// The sizes of the values together, or the largest number of 64 bits where that is greater.
