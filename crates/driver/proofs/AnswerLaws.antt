@@ -54,7 +54,7 @@ book-ended words a book (BookRefused why) form h e = (record { read = record { b
 book-ended words a book ScriptUnread form h e = absurd h
 book-ended words a book (ScriptRefused why) form h e = absurd h
 book-ended words a book SinkFailed form h e = absurd h
-book-ended words a book OutOfMemory form h e = (refl, inl (ap (λ o. o.written) e))
+book-ended words a book OutOfMemory form h e = (record { form = (book, form); left = inl (ap (λ o. o.written) e) }, refl)
 
 -- a book that is refused is not accepted: no status but 2, 3 and 7 can come
 pub refused-not-accepted : (bytes : List ℕ) (why : BookError) → IsBookCause bytes why → why ≢ BookMemory → ¬ IsAccepted bytes
@@ -83,7 +83,7 @@ script-ended words a mid script r ScriptUnread b h e =
 script-ended words a mid script r (ScriptRefused why) b h e =
     (record { read = record { accepted = b.accepted; script = script; form = b.form; bytes = h.bytes; front = h.front }; reads = both-read words a mid script r false b h.reads; cause = h.so.0; named = h.so.1; unwritten = e }, refl)
 script-ended words a mid script r SinkFailed b h e = absurd h
-script-ended words a mid script r OutOfMemory b h e = (refl, inl (ap (λ o. o.written) e))
+script-ended words a mid script r OutOfMemory b h e = (record { form = (b.accepted.read.book, inl (script, b.form)); left = inl (ap (λ o. o.written) e) }, refl)
 
 -- what was played
 pub play-answered : (words : List (List ℕ)) (a : Around) (mid : Input) (script : List ℕ) (r : Read) (content : Content) (played : Played) → HasReadBook words a.held script r a.shelf_before mid → IsScriptAnswer a.held script mid a.shelf_after (Ok content)
@@ -94,10 +94,15 @@ play-answered words a mid script r content (Done report) b h p =
 play-answered words a mid script r content (PlayCut report) b h p =
     let accepted : ScriptIsAccepted words a.held = record { read = record { accepted = b.accepted; script = script; form = b.form; bytes = h.bytes; front = h.front }; content = content; is = h.so } in
     inl (record { accepted = accepted; reads = both-read words a mid script r false b h.reads; rose = p.rose; told = report; report = refl; cut = rw (b.notices, b.notebook) p.cut })
-play-answered words a mid script r content PlayMemory b h (inl same) = (refl, inl (ap (λ o. o.written) same))
+play-answered words a mid script r content PlayMemory b h (inl same) = (record { form = (b.accepted.read.book, inl (script, b.form)); left = inl (ap (λ o. o.written) same) }, refl)
 play-answered words a mid script r content PlayMemory b h (inr left) =
-    let accepted : ScriptIsAccepted words a.held = record { read = record { accepted = b.accepted; script = script; form = b.form; bytes = h.bytes; front = h.front }; content = content; is = h.so } in
-    (refl, inr (record { accepted = accepted; reads = both-read words a mid script r false b h.reads; left = rw (b.notices, b.notebook) left }))
+    let accepted : ScriptIsAccepted words a.held = record { read = record { accepted = b.accepted; script = script; form = b.form; bytes = h.bytes; front = h.front }; content = content; is = h.so } in (
+      record {
+        form = (b.accepted.read.book, inl (script, b.form));
+        left = inr (record { accepted = accepted; reads = both-read words a mid script r false b h.reads; left = rw (b.notices, b.notebook) left });
+      },
+      refl,
+    )
 
 -- words in no form
 pub words-ended : (words : List (List ℕ)) (a : Around) → ((book script : List ℕ) → ¬ IsPlay words book script) → ((book : List ℕ) → ¬ IsFormat words book) → a.shelf_after ≡ a.shelf_before → a.sink_after ≡ a.sink_before → IsAnswer words a None (Some Usage)
@@ -111,7 +116,7 @@ format-ended a book (BookRefused why) h e = (record { read = record { book = boo
 format-ended a book ScriptUnread h e = absurd h
 format-ended a book (ScriptRefused why) h e = absurd h
 format-ended a book SinkFailed h e = absurd h
-format-ended a book OutOfMemory h e = (refl, ap (λ o. o.written) e)
+format-ended a book OutOfMemory h e = (ap (λ o. o.written) e, refl)
 
 -- a book that was read, and whose tidy form was to be written
 pub format-written : (a : Around) (book : List ℕ) (r : Read) (report : Option Report) (fault : Option RunFault) → IsBookAnswer a.held book a.shelf_before a.shelf_after (Ok r) → report ≡ None → IsWriting r.notebook a.sink_before a.sink_after fault
@@ -123,7 +128,7 @@ format-written a book r report (Some (BookRefused why)) h e x = absurd x
 format-written a book r report (Some ScriptUnread) h e x = absurd x
 format-written a book r report (Some (ScriptRefused why)) h e x = absurd x
 format-written a book r report (Some SinkFailed) h e x = record { accepted = book-accepted (format_words book) a.held book a.shelf_before a.shelf_after r (inr refl) h; form = refl; reads = h.reads; rose = x.0; report = e; written = x.1 }
-format-written a book r report (Some OutOfMemory) h e x = (e, x)
+format-written a book r report (Some OutOfMemory) h e x = (x, e)
 
 -- what formatting answers, the program answers to the words
 format-told : (a : Around) (book : List ℕ) (report : Option Report) (fault : Option RunFault) → IsFormatAnswer book a report fault → IsAnswer (format_words book) a report fault
@@ -134,7 +139,7 @@ format-told a book report (Some (BookRefused why)) h = h
 format-told a book report (Some ScriptUnread) h = absurd h
 format-told a book report (Some (ScriptRefused why)) h = absurd h
 format-told a book report (Some SinkFailed) h = inr h
-format-told a book report (Some OutOfMemory) h = (h.0, inl h.1)
+format-told a book report (Some OutOfMemory) h = (record { form = (book, inr refl); left = inl h.0 }, h.1)
 
 pub format-answered : (words : List (List ℕ)) (a : Around) (book : List ℕ) (report : Option Report) (fault : Option RunFault) → IsFormat words book → IsFormatAnswer book a report fault → IsAnswer words a report fault
 format-answered words a book report fault form h = subst (λ ws. IsAnswer ws a report fault) (sym form) (format-told a book report fault h)

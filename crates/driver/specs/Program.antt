@@ -176,15 +176,20 @@ pub record HasFormatted (words : List (List ℕ)) (a : Around) (given : Option R
   pub report : given ≡ None
   pub written : IsWrittenText (text_of (tidied accepted.notebook)) a.sink_before a.sink_after
 
--- status 7 of both: nothing was written
+-- nothing was written
 abbrev pub NothingIsWritten : Around → Type 0
 NothingIsWritten a = a.sink_after.written ≡ a.sink_before.written
 
--- or of `play`: book and script were accepted, and a front of what an actual history prints stands written
+-- status 7 of `play`, past the reading: book and script were accepted, and a front of what an actual history prints stands written
 pub record HasStopped (words : List (List ℕ)) (a : Around) : Type 0 where
   pub accepted : ScriptIsAccepted words a.held
   pub reads : BothWereRead a accepted.read.accepted.read.book accepted.read.script false
   pub left : HasLeftFront accepted.read.accepted.notebook (map notice_line accepted.read.accepted.notices) accepted.content 0 a.sink_before a.sink_after
+
+-- status 7: the words are in a form, and nothing was written, or such a front stands written
+pub record HasNoMemory (words : List (List ℕ)) (a : Around) : Type 0 where
+  pub form : (book : List ℕ) × NamesBook words book
+  pub left : NothingIsWritten a ⊎ HasStopped words a
 
 -- the fault and the report of each status, with its cause
 abbrev pub IsAnswer : List (List ℕ) → Around → Option Report → Option RunFault → Type 0
@@ -195,7 +200,7 @@ IsAnswer words a report (Some (BookRefused why)) = HasRefusedBook words a why ×
 IsAnswer words a report (Some ScriptUnread) = HasUnreadScript words a × (report ≡ None)
 IsAnswer words a report (Some (ScriptRefused why)) = HasRefusedScript words a why × (report ≡ None)
 IsAnswer words a report (Some SinkFailed) = HasFailedSink words a report ⊎ HasCutBook words a report
-IsAnswer words a report (Some OutOfMemory) = (report ≡ None) × (NothingIsWritten a ⊎ HasStopped words a)
+IsAnswer words a report (Some OutOfMemory) = HasNoMemory words a × (report ≡ None)
 
 -- the same of a book that is formatted, by its name: 1, 4 and 5 are no status of it
 abbrev pub IsFormatAnswer : List ℕ → Around → Option Report → Option RunFault → Type 0
@@ -206,7 +211,7 @@ IsFormatAnswer book a report (Some (BookRefused why)) = HasRefusedBook (format_w
 IsFormatAnswer book a report (Some ScriptUnread) = ⊥
 IsFormatAnswer book a report (Some (ScriptRefused why)) = ⊥
 IsFormatAnswer book a report (Some SinkFailed) = HasCutBook (format_words book) a report
-IsFormatAnswer book a report (Some OutOfMemory) = (report ≡ None) × NothingIsWritten a
+IsFormatAnswer book a report (Some OutOfMemory) = NothingIsWritten a × (report ≡ None)
 
 -- the words are in a form, and whatever the shelf gives of the files that they name is accepted, which says something where the shelf tells what it holds
 pub record AreAcceptable (words : List (List ℕ)) (held : Option (List (List ℕ × List ℕ))) : Type 0 where

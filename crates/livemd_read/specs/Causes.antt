@@ -8,10 +8,10 @@ use Rattle.livemd_format.specs.Reads.{items_of}
 use Rattle.livemd_read.specs.declared.types.BookError.{BookError}
 use Rattle.livemd_read.specs.declared.types.BookError.TheVariants.{TooLarge, NotUtf8, TooManySections, TooManyCells, OutOfMemory}
 
--- why a book isn't read: the first cause in the order of the checks
+-- why a book isn't read: the first cause in the order of the checks; want of memory is told only of the text of a book
 abbrev pub IsBookCause : List ℕ → BookError → Type 0
 IsBookCause bytes TooLarge = most_file_bytes < length bytes
 IsBookCause bytes (NotUtf8 at) = IsSmall bytes × ((¬ IsUtf8 bytes) × (at ≡ utf8_valid_len bytes))
 IsBookCause bytes TooManySections = IsBookText bytes × (most_sections < length (notebook_of (items_of bytes)).sections)
 IsBookCause bytes TooManyCells = IsBookText bytes × (HasFewSections (notebook_of (items_of bytes)) × HasManyCells (notebook_of (items_of bytes)))
-IsBookCause bytes OutOfMemory = Unit {0}
+IsBookCause bytes OutOfMemory = IsBookText bytes

@@ -5,6 +5,7 @@ ghost use Rattle.notebook.specs.Book.{cells_of, section_cells};
 ghost use Rattle.livemd_format.specs.RoundTrip.{AreSectionTexts, AreTexts};
 ghost use Rattle.livemd_format.specs.Tidy.{number_from, tidied, tidy_section, tidy_sections};
 ghost use Rattle.livemd_write.specs.Told.{told, told_section};
+ghost use Rattle.limits.specs.Limits.{most_cells, most_sections};
 
 use crate::cells::{tidy_cell, tidy_cells, tidy_kept};
 use crate::texts::tidy_name;
@@ -59,8 +60,8 @@ fn tidy_section(
 
 /// The sections, tidy, they and their cells numbered from 1 on.
 fn tidy_sections(alloc: Global, all: &[Section]) -> Result<Items<Section>, AllocError>
-    requires sections { length all.now ≤ 1000 }
-    requires cells { length (flat_map cells_of all.now) ≤ 4000 }
+    requires sections { length all.now ≤ most_sections }
+    requires cells { length (flat_map cells_of all.now) ≤ most_cells }
     ensures tidy { IfOk result (λ ss. ss ≡ tidy_sections all.now 1 1 all.now) }
     ensures characters { OnOk result (AllByRecursion AreSectionTexts (map told_section all.now)) }
 {
@@ -78,7 +79,7 @@ fn tidy_sections(alloc: Global, all: &[Section]) -> Result<Items<Section>, Alloc
 
 /// How many cells the sections have.
 fn cell_count(sections: &[Section]) -> u64
-    requires { length (flat_map cells_of sections.now) ≤ 4000 }
+    requires { length (flat_map cells_of sections.now) ≤ most_cells }
     ensures { result ≡ length (flat_map cells_of sections.now) }
 {
     let mut count: u64 = 0;
@@ -90,8 +91,8 @@ fn cell_count(sections: &[Section]) -> u64
 
 /// The parts of a notebook, tidy.
 pub(crate) fn tidied(alloc: Global, book: &Parts) -> Result<Parts, AllocError>
-    requires sections { length book.now.sections ≤ 1000 }
-    requires cells { length (section_cells book.now) ≤ 4000 }
+    requires sections { length book.now.sections ≤ most_sections }
+    requires cells { length (section_cells book.now) ≤ most_cells }
     requires number { book.now.setup.id ≡ 0 }
     ensures tidy { IfOk result (λ n. n ≡ tidied book.now) }
     ensures characters { OnOk result (AreTexts (told book.now)) }

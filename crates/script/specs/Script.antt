@@ -47,8 +47,8 @@ pub record IsFirstBad (ls : List (List ℕ)) (number : ℕ) (kind : LineFault) :
   pub bad : (content : Content) → ¬ (IsScript (before ++ line ∷ []) content)
   pub fault : IsFault line kind
 
--- why the bytes stand for no script
+-- why the bytes stand for no script; want of memory is told only where they are few enough
 abbrev pub IsScriptCause : List ℕ → ScriptError → Type 0
 IsScriptCause bytes TooLarge = most_file_bytes < length bytes
 IsScriptCause bytes (At line kind) = (length bytes ≤ most_file_bytes) × IsFirstBad (lines bytes) line kind
-IsScriptCause bytes OutOfMemory = Unit {0}
+IsScriptCause bytes OutOfMemory = length bytes ≤ most_file_bytes
