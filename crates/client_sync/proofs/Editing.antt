@@ -16,7 +16,7 @@ use Rattle.notebook.specs.Book.{cells, found, resourced_cell, resourced, with_so
 use Rattle.session_ops.specs.State.{State, state, revision}
 use Rattle.session_ops.specs.Snapshot.{HasRevisions, listed_revision}
 use Rattle.notebook.specs.Rules.{IsNotebook}
-use Rattle.client_sync.specs.Client.{Client as Holder, Pending, Done, EditTooLong, Unfit, pending_of, with_pending, own_source, delivered, edited, edited_cell, with_fitting, with_edit}
+use Rattle.client_sync.specs.Client.{Client as Holder, Edited, Pending, Done, NoCell, EditTooLong, Unfit, pending_of, with_pending, own_source, delivered, edited, edited_cell, with_fitting, with_edit}
 use Rattle.client_sync.specs.Causes.{IsEditCause}
 use Rattle.client_sync.specs.Fits.{HasSource, FitsHere}
 use Rattle.client_sync.specs.Own.{IsOwnText, IsOwnFault}
@@ -52,12 +52,22 @@ doing m cell rev (s ∷ d) h = refl
 too-long : (m : Holder) (cell rev : ℕ) (d : List Step) (n : Parts) (own : Cell) → found cell (cells n) ≡ Some own → most_inserted < inserted_by d → edited_cell m cell rev d (found cell (cells n)) ≡ EditTooLong
 too-long m cell rev d n own there long = rw (there, long-test (inserted_by d) long) refl
 
+fitting-or-not : (m : Holder) (cell rev : ℕ) (d : List Step) (why : Option Misfit) → (with_fitting m cell rev d why ≢ NoCell) × (with_fitting m cell rev d why ≢ EditTooLong)
+fitting-or-not m cell rev [] None = (λ e. absurd (cc e), λ e. absurd (cc e))
+fitting-or-not m cell rev [] (Some why) = (λ e. absurd (cc e), λ e. absurd (cc e))
+fitting-or-not m cell rev (s ∷ d) None = (λ e. absurd (cc e), λ e. absurd (cc e))
+fitting-or-not m cell rev (s ∷ d) (Some why) = (λ e. absurd (cc e), λ e. absurd (cc e))
+
+judged : (m : Holder) (cell rev : ℕ) (d : List Step) (n : Parts) (own : Cell) → found cell (cells n) ≡ Some own → inserted_by d ≤ most_inserted
+    → (edited_cell m cell rev d (found cell (cells n)) ≢ NoCell) × (edited_cell m cell rev d (found cell (cells n)) ≢ EditTooLong)
+judged m cell rev d n own there short = subst (λ x. (x ≢ NoCell) × (x ≢ EditTooLong)) (sym (fitting m cell rev d n own (misfit d own.source) there short refl)) (fitting-or-not m cell rev d (misfit d own.source))
+
 fault-of : (m : Holder) (cell rev : ℕ) (d : List Step) (n : Parts) (e : EditError) → IsOwnFault n cell d e → IsEditCause (edited_cell m cell rev d (found cell (cells n))) e
 fault-of m cell rev d n NoCellError f = ap (edited_cell m cell rev d) f
 fault-of m cell rev d n TooLongError f = too-long m cell rev d n f.0.0 f.0.1 f.1
 fault-of m cell rev d n (PastEnd len) f = fitting m cell rev d n f.own (Some (Past len)) f.there f.short f.unfit ∙ unfitting m cell rev d (Past len)
 fault-of m cell rev d n (SplitsPair at) f = fitting m cell rev d n f.own (Some (Splits at)) f.there f.short f.unfit ∙ unfitting m cell rev d (Splits at)
-fault-of m cell rev d n OutOfMemory f = tt
+fault-of m cell rev d n OutOfMemory f = judged m cell rev d n f.own f.there f.short
 
 judged-by-own : (n0 : Parts) (c : Client) (m : Holder) (cell : ℕ) (d : List Step) → Mirrors n0 c m → edited n0 m cell d ≡ edited_cell m cell (revision (delivered n0 m) cell) d (found cell (cells c.book))
 judged-by-own n0 c m cell d is = ap (λ b. edited_cell m cell (revision (delivered n0 m) cell) d (found cell (cells b))) (sym is.book)

@@ -26,13 +26,19 @@ pub record IsOwnMisfit (n : Parts) (cell : ℕ) (d : List Step) (why : Misfit) :
   pub short : inserted_by d ≤ most_inserted
   pub unfit : misfit d own.source ≡ Some why
 
--- why the edit is refused
+-- the client has the cell, and the edit isn't too long
+pub record IsForCell (n : Parts) (cell : ℕ) (d : List Step) : Type 0 where
+  pub own : Cell
+  pub there : found cell (cells n) ≡ Some own
+  pub short : inserted_by d ≤ most_inserted
+
+-- why the edit is refused; want of memory is told only past the cell and the length
 abbrev pub IsOwnFault : Parts → ℕ → List Step → EditError → Type 0
 IsOwnFault n cell d NoCell = found cell (cells n) ≡ None
 IsOwnFault n cell d EditTooLong = ((c : Cell) × (found cell (cells n) ≡ Some c)) × (most_inserted < inserted_by d)
 IsOwnFault n cell d (PastEnd len) = IsOwnMisfit n cell d (Past len)
 IsOwnFault n cell d (SplitsPair at) = IsOwnMisfit n cell d (Splits at)
-IsOwnFault n cell d OutOfMemory = Unit {0}
+IsOwnFault n cell d OutOfMemory = IsForCell n cell d
 
 -- a cell's source
 abbrev pub source_of : Cell → List ℕ

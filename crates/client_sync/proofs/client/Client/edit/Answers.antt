@@ -4,7 +4,7 @@ use Rattle.std.specs.Result.{is_ok}
 use Rattle.notebook.specs.Book.{with_source}
 use Rattle.session_ops.specs.Snapshot.{listed_revision}
 use Rattle.client_sync.specs.Client.{delivered}
-use Rattle.client_sync.specs.declared.edit_error.EditError.TheVariants.{NoCell}
+use Rattle.client_sync.specs.declared.edit_error.EditError.TheVariants.{NoCell, OutOfMemory}
 use Rattle.client_sync.proofs.Editing.{edit-refused, edit-empty, edit-done, has-steps, no-steps, server-text}
 use Rattle.client_sync.proofs.Viewing.{unknown-cell}
 use Rattle.client_sync.proofs.client.Client.edit.Goals as goal
@@ -35,3 +35,8 @@ returns-then-is_empty-clause-edited c = λ n0 m is. (m, (edit-empty n0 c.args.se
 
 pub returns-in_err-text-clause-edited : goal.returns-in_err-text-clause-edited
 returns-in_err-text-clause-edited c = search (rules, edit-refused)
+
+pub returns-then-is_err-clause-edited : goal.returns-then-is_err-clause-edited
+returns-then-is_err-clause-edited c = λ n0 m is.
+    let f = c.in_ok-text.ensures in
+    edit-refused n0 c.args.self.now m c.args.cell c.args.delta.now OutOfMemory is (record { own = f.own; there = f.there; short = f.short })
